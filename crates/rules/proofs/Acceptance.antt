@@ -1,0 +1,73 @@
+-- What checks 1 to 9 leave of a file, as facts about its board's nets and cells: each later theorem starts from these and opens no check
+-- again.
+use Prim.Native.Nat.{ℕ, _+_, _<_, _≤_}
+use mathlib.Core.Path.{_≡_, refl, sym, _∙_, ap}
+use mathlib.Core.Logic.{_⊎_, inl, inr, ⊎-elim, _↔_}
+use mathlib.Core.Bool.{Bool, true, false, not, _&&_, _||_, false≢true, true≢false}
+use mathlib.Core.List.{List, [], _∷_, _++_}
+use native.Mathlib.Omega.{arith}
+use borrow.Author.Tests.{eqb-true, eqb-false, eq-eqb, ltb-true, ltb-false, lt-ltb, leb-true}
+use lib.Dec.{eqb, ltb, leb}
+use Rattle.rules.specs.Basics.{any, all, count}
+use Rattle.rules.specs.File.{Board, boardOf, kindOf, controlOf, netOf, kindAt, controlAt, netAt, cellsOf, netsOf, limitOf, ofKind2, recordOf, cellOf, isBroken}
+use Rattle.rules.specs.Drivers.{controlled, controlFor, isControl, alwaysOn, onNet, outputOf, driverOf, drives, drivers, outputs, meets, inside, crosses}
+use Rattle.rules.specs.Refusals.{Check, judge, refuse, numberOf, mostDrivers, mostCells, mostNets, mostLimit, within, outside, undriven, clash, clashing, crowded, crossed, unequal, fileChecks, netChecks, controlChecks, earlyChecks, boardChecks}
+use Rattle.rules.specs.declared.Verdict.{Verdict}
+use Rattle.rules.specs.declared.Verdict.the-variants.{Accepted, Refused}
+use Rattle.rules.proofs.Tests.{left, right, or-cases, or-neither, fails-not, passes-not, clashes, any-at, any-member, any-none, none-any, all-at, all-from, all-fails, fails-if, passes-if, both, count-same, decided, order, not-fails}
+use Rattle.rules.proofs.Records.{Says, SaysAt, record-says}
+use Rattle.rules.proofs.Verdicts.{Passes, AllPass, First, all-pass, accepted, judge-append, append-pass, judge-passes, given-first, never}
+
+-- what checks 1 to 9 leave
+pub record Early (b : Board) : Type 0 where
+  -- C, N and SSOL are within their limits
+  pub has-limit : 0 < b .limit
+  -- a controlled driver's control cell is one, on the board
+  pub own-control : (c : ℕ) → c < b .size → controlled b c ≡ true → (controlFor b c < b .size) × (isControl b (controlFor b c) ≡ true)
+  -- an output's net is one of the board
+  pub own-net : (c : ℕ) → c < b .size → (controlled b c || alwaysOn b c) ≡ true → netOf (b .cell c) < b .nets
+  -- each net has an output
+  pub driven : (n : ℕ) → n < b .nets → any (b .size) (outputOf b n) ≡ true
+  -- no two outputs of a net clash
+  pub no-clash : (n c d : ℕ) → n < b .nets → c < b .size → d < b .size → clash b n c d ≡ false
+  -- and no net is crowded
+  pub few : (n : ℕ) → n < b .nets → drivers b n ≤ mostDrivers
+
+module _ (file : List ℕ) (whole : (p : ℕ) → p < cellsOf file → isBroken (recordOf file p) ≡ false) where
+  says : (p : ℕ) → p < cellsOf file → SaysAt file p (boardOf file .cell p)
+  unfolding boardOf
+  says p l = record-says file p (whole p l)
+
+  kept-control : (c : ℕ) → c < boardOf file .size → controlled (boardOf file) c ≡ true → (controlFor (boardOf file) c < boardOf file .size) × (isControl (boardOf file) (controlFor (boardOf file) c) ≡ true)
+  unfolding boardOf controlled controlFor isControl ofKind2
+  kept-control c l h =
+      let s = says c l in
+      let k : kindAt file c ≡ 3 = sym (s .kind-is) ∙ eqb-true _ _ h in
+      let t : ofKind2 file (controlAt file c) ≡ true = s .has-control (rw k) in
+      let m = ltb-true _ _ (left (ltb (controlAt file c) (cellsOf file)) _ t) in
+      rw (s .control-is)
+      (m, eq-eqb _ _ (says (controlAt file c) m .kind-is ∙ eqb-true _ _ (right (ltb (controlAt file c) (cellsOf file)) t)))
+
+  kept-net : (c : ℕ) → c < boardOf file .size → (controlled (boardOf file) c || alwaysOn (boardOf file) c) ≡ true → netOf (boardOf file .cell c) < boardOf file .nets
+  unfolding boardOf controlled alwaysOn
+  kept-net c l h =
+      let s = says c l in
+      rw (s .net-is)
+      (⊎-elim
+      (λ o. let k : kindAt file c ≡ 3 = sym (s .kind-is) ∙ eqb-true _ _ o in ltb-true _ _ (s .has-net (rw k)))
+      (λ o. let k : kindAt file c ≡ 4 = sym (s .kind-is) ∙ eqb-true _ _ o in ltb-true _ _ (s .has-net (rw k)))
+      (or-cases (controlled (boardOf file) c) h))
+
+-- "within its limits" from check 4
+limit-within : (most n : ℕ) → within most n ≡ true → (0 < n) × (n ≤ most)
+unfolding within
+limit-within most n h = (leb-true _ _ (left (leb 1 n) _ h), leb-true _ _ (right (leb 1 n) h))
+
+-- acceptance by checks 1 to 9, taken apart
+pub early : (file : List ℕ) → judge (earlyChecks file) ≡ Accepted → Early (boardOf file)
+unfolding earlyChecks fileChecks netChecks boardOf outside undriven clashing crowded
+early file e =
+    let h = all-pass (earlyChecks file) e in
+    let limits = passes-not _ (h .1 .1 .1 .0 0 (omega arith)) in
+    let whole = h .1 .1 .1 .1 .1 .0 in
+    record { has-limit = limit-within mostLimit (limitOf file) (right (within mostCells (cellsOf file) && within mostNets (netsOf file)) limits) .0; own-control = kept-control file whole; own-net = kept-net file whole; driven = λ n l. passes-not _ (h .1 .1 .1 .1 .1 .1 .0 n l); no-clash = λ n c d l m k. any-none _ _ (any-none _ _ (h .1 .1 .1 .1 .1 .1 .1 .0 n l) m) k; few = λ n l. ltb-false _ _ (h .1 .1 .1 .1 .1 .1 .1 .1 .0 n l) }

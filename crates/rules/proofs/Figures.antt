@@ -1,0 +1,126 @@
+-- Document 01's figures marked P, as one table with one claim, which antt computes. Board E is a file's bytes.
+use Prim.Native.Nat.{ℕ, zero, suc, _+_, _*_, _-_, _/_, _%_}
+use mathlib.Core.Path.{_≡_, refl}
+use mathlib.Core.Bool.{Bool, true, false, cond, xor, _&&_}
+use mathlib.Core.List.{List, [], _∷_, _++_, map}
+use lib.Dec.{eqb}
+use lib.ListN.{length, getD, replicate}
+use Rattle.rules.specs.Basics.{any, all, count, largest, seek, least, table, has, ceil, bit, word, rowBytes, rowByte, rowOf}
+use Rattle.rules.specs.File.{Board, Sums, byteAt, numberAt, added, sumsFrom, sumsOf, blocksIn, blockAt, sumsRight, zeros, headRight, headerRight, cellsOf, netsOf, limitOf, recordsIn, cellBlockRight, recordAt, kindAt, onAt, controlAt, netAt, ofKind2, tableOf, recordOf, kindOf, onValueOf, controlOf, netOf, boardOf, summed, none}
+use Rattle.rules.specs.declared.Cell.{Cell}
+use Rattle.rules.specs.declared.Cell.the-variants.{Internal, Control, ThreeState}
+use Rattle.rules.specs.Drivers.{controlled, controlFor, isControl, alwaysOn, isInput, onNet, outputOf, driverOf, drives, drivers, controls, degree, meets, inside, crosses, groupsOf}
+use Rattle.rules.specs.Groups.{marked, turn, pass, firstPass, secondPass, selected, earlier, group, onIn}
+use Rattle.rules.specs.Vectors.{codeWidth, codeBit, widthOf, Bases, patternOf, basesOf, differs, changes, insertedAfter, between, weave, stepsOf, among, vectorOf, planOf, totalOf, vectorAt, cellBit, vectorRow}
+use Rattle.rules.specs.Marks.{readAt, ownAt, differsAt, inputOf, unseen, failed, readTwice, rowsOf, firstGiven, markOf, byteOf, marksOf}
+use Rattle.rules.specs.Refusals.{judge, numberOf, placeOf, wrongLength, within, outside, blocksFor, blockWrong, undriven, clash, clashing, crowded, crossed, unequal, fileChecks, netChecks, controlChecks, earlyChecks, boardChecks}
+
+-- a number's two bytes
+two : ℕ → List ℕ
+two n = n % 256 ∷ n / 256 ∷ []
+
+-- a block: its bytes, zeros to 507, and its two sums
+block : List ℕ → List ℕ
+block bytes =
+    let whole : List ℕ = bytes ++ replicate (summed - length bytes) 0 in
+    let sums : Sums = sumsOf whole in
+    whole ++ two (sums .a) ++ two (sums .b)
+
+record4 : ℕ → ℕ → ℕ → ℕ → List ℕ
+record4 kind on control net = kind ∷ on ∷ two control ++ two net
+
+-- board E with the given SSOL, as a file
+fileE : ℕ → List ℕ
+fileE limit =
+    block (two 0 ++ (1 ∷ 0 ∷ 66 ∷ 83 ∷ 73 ∷ 78 ∷ 1 ∷ 0 ∷ []) ++ two 11 ++ two 3 ++ two limit) ++
+    block
+    (two 1 ++ (2 ∷ 11 ∷ []) ++ record4 2 1 none none ++ record4 3 0 0 0 ++ record4 3 0 0 1 ++ record4 2 0 none none ++ record4 3 0 3 0 ++ record4 2 1 none none ++ record4 3 0 5 1 ++ record4 4 0 none 2 ++ record4 1 0 none 0 ++ record4 1 0 none 1 ++ record4 1 0 none 2)
+
+-- the numbers below n that pass, in order
+members : ℕ → (ℕ → Bool) → List ℕ
+members zero f = []
+members (suc n) f = members n f ++ cond (f n) (n ∷ []) []
+
+boardE : Board
+boardE = boardOf (fileE 2)
+
+-- a net of degree 2, switched by control cells 0 and 2, and one of degree 1, switched by control cell 4
+lopsided : List Cell
+lopsided =
+    Control true ∷ ThreeState (record { 0 = 0 }) (record { 0 = 0 }) ∷ Control true ∷ ThreeState (record { 0 = 2 }) (record { 0 = 0 }) ∷ Control true ∷ ThreeState (record { 0 = 4 }) (record { 0 = 1 }) ∷ []
+
+boardL : Board
+boardL = record { size = 6; nets = 2; limit = 2; cell = λ p. getD lopsided p Internal }
+
+-- one figure: what the document says, and what the definitions compute
+record Figure : Type 0 where
+  said : List ℕ
+  computed : List ℕ
+
+figure : List ℕ → List ℕ → Figure
+figure said computed = record { said = said; computed = computed }
+
+-- what the inputs of nets 0, 1 and 2 read in each of three vectors, twice over: a capture of board E
+capture : ℕ → ℕ → ℕ → List ℕ
+capture x y z =
+    let once : List ℕ = 0 ∷ x ∷ 0 ∷ y ∷ 0 ∷ z ∷ [] in
+    once ++ once
+
+digits : ℕ → (ℕ → Bool) → List ℕ
+digits n f = table n (λ m. cond (f m) 1 0)
+
+verdictOn : List ℕ → List ℕ
+verdictOn file = numberOf (judge (boardChecks file)) ∷ placeOf (judge (boardChecks file)) ∷ []
+
+-- each of the first n vectors of board E: its group and its row
+listing : ℕ → List ℕ
+listing zero = []
+listing (suc n) = listing n ++ (vectorAt boardE n .group ∷ vectorRow boardE (vectorAt boardE n))
+
+zeroSums : Sums
+zeroSums = sumsOf (replicate 508 0)
+
+figures : List Figure
+figures =
+    -- E is accepted, with SSOL 2 and with SSOL 1
+    figure (0 ∷ 0 ∷ []) (verdictOn (fileE 2)) ∷
+    figure (0 ∷ 0 ∷ []) (verdictOn (fileE 1)) ∷
+    -- E's groups are {3, 5} and {0}
+    figure (3 ∷ 5 ∷ []) (members 11 (onIn boardE 1)) ∷
+    figure (0 ∷ []) (members 11 (onIn boardE 2)) ∷
+    -- where G is 2, a net of degree 1 is driven in group 2 as well
+    figure (2 ∷ 4 ∷ []) (members 6 (onIn boardL 1)) ∷
+    figure (0 ∷ 4 ∷ []) (members 6 (onIn boardL 2)) ∷
+    -- N = 1, 2, 3, 6, 7, 254, 255, 256 give p = 2, 2, 3, 3, 4, 8, 9, 9
+    figure (2 ∷ 2 ∷ 3 ∷ 3 ∷ 4 ∷ 8 ∷ 9 ∷ 9 ∷ [])
+    (map codeWidth (1 ∷ 2 ∷ 3 ∷ 6 ∷ 7 ∷ 254 ∷ 255 ∷ 256 ∷ [])) ∷
+    -- E with SSOL 1 has 11 vectors; nets of vector 1 are 0, 1, 0
+    figure (11 ∷ []) (totalOf (boardOf (fileE 1)) ∷ []) ∷
+    figure (0 ∷ 1 ∷ 0 ∷ []) (digits 3 (vectorAt (boardOf (fileE 1)) 1 .value)) ∷
+    -- 508 zero bytes give a = 1, b = 508
+    figure (1 ∷ 508 ∷ []) (zeroSums .a ∷ zeroSums .b ∷ []) ∷
+    -- E, nets 0 and 2 tied as wired-AND: marks 3, 0, 1
+    figure (3 ∷ 0 ∷ 1 ∷ []) (marksOf boardE (capture 0 2 5)) ∷
+    -- E, nets 0 and 1 tied as wired-AND: 1, 1, 0; as wired-OR: 1, 1, 3
+    figure (1 ∷ 1 ∷ 0 ∷ []) (marksOf boardE (capture 0 4 4)) ∷
+    figure (1 ∷ 1 ∷ 3 ∷ []) (marksOf boardE (capture 0 7 7)) ∷
+    -- and E's listing: for each vector its group and its row
+    figure
+    (1 ∷ 0x20 ∷ 0x00 ∷ 1 ∷ 0xE4 ∷ 0x00 ∷ 1 ∷ 0xB2 ∷ 0x00 ∷ 2 ∷ 0x09 ∷ 0x00 ∷ 2 ∷ 0xCD ∷ 0x00 ∷ 2 ∷ 0x9B ∷ 0x00 ∷ [])
+    (listing (totalOf boardE)) ∷
+    []
+
+same : List ℕ → List ℕ → Bool
+same [] [] = true
+same [] (y ∷ ys) = false
+same (x ∷ xs) [] = false
+same (x ∷ xs) (y ∷ ys) = eqb x y && same xs ys
+
+-- each figure is what the definitions compute
+right : List Figure → Bool
+right [] = true
+right (f ∷ fs) = same (f .said) (f .computed) && right fs
+
+claim : right figures ≡ true
+unfolding right same listing lopsided boardL figures figure capture digits verdictOn zeroSums members boardE fileE block record4 two any all count largest seek least table has ceil bit word rowBytes rowByte rowOf byteAt numberAt added sumsFrom sumsOf blocksIn blockAt sumsRight zeros headRight headerRight cellsOf netsOf limitOf recordsIn cellBlockRight recordAt kindAt onAt controlAt netAt ofKind2 tableOf recordOf kindOf onValueOf controlOf netOf boardOf controlled controlFor isControl alwaysOn isInput onNet outputOf driverOf drives drivers controls degree meets inside crosses groupsOf marked turn pass firstPass secondPass selected earlier group onIn codeWidth codeBit widthOf patternOf basesOf differs changes insertedAfter between weave stepsOf among vectorOf planOf totalOf vectorAt cellBit vectorRow readAt ownAt differsAt inputOf unseen failed readTwice rowsOf firstGiven markOf byteOf marksOf judge numberOf placeOf wrongLength within outside blocksFor blockWrong undriven clash clashing crowded crossed unequal fileChecks netChecks controlChecks earlyChecks boardChecks xor
+claim = refl

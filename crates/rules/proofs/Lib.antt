@@ -1,0 +1,20 @@
+-- The laws of the definitions, and the theorems about them. docs/PROVED.md says in plain words what each theorem says.
+pub mod Tests
+pub mod Digits
+pub mod Codes
+pub mod Weaving
+pub mod Limit
+pub mod Verdicts
+pub mod Records
+pub mod Acceptance
+pub mod Counting
+pub mod Driving
+pub mod Degree
+pub mod Passes
+pub mod Cover
+pub mod Selection
+pub mod Turns
+pub mod Rows
+pub mod Requirement
+pub mod Outcomes
+pub mod Figures

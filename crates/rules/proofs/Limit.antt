@@ -1,0 +1,123 @@
+-- Two neighbouring vectors of a plan differ in at most SSOL nets.
+-- The idea: between base vector i and the next the values go by stages. Stage j has the new value at the j × SSOL lowest differing nets and the old elsewhere: stage 0 is base i, stage t the t-th inserted vector, and the stage after the last inserted one is base i + 1, for by then no differing net is left. From one stage to the next only nets change that are among the lowest (j + 1) × SSOL and not among the lowest j × SSOL, and of those there are at most SSOL.
+use Prim.Native.Nat.{ℕ, zero, suc, _+_, _*_, _-_, _≤_, _<_, min}
+use mathlib.Core.Path.{_≡_, refl, _∙_, ap, fun-ext}
+use mathlib.Core.Bool.{Bool, true, false, cond, xor, _&&_, false≢true}
+use mathlib.Core.List.{_∷_}
+use native.Mathlib.Nat.{suc-mul, zero-mul, mul-le-mul-right}
+use native.Mathlib.Numerals.{add-one}
+use native.Mathlib.Omega.{arith}
+use borrow.Author.Tests.{lt-ltb, ltb-true, ltb-false}
+use lib.Dec.{ltb}
+use lib.ListN.{length, getD}
+use Rattle.rules.specs.Basics.{digit, count, ceil}
+use Rattle.rules.specs.File.{Board}
+use Rattle.rules.specs.Vectors.{Bases, basesOf, differs, changes, insertedAfter, between, stepsOf, among, vectorOf, planOf, totalOf, vectorAt}
+use Rattle.rules.specs.declared.Step.{Step}
+use Rattle.rules.specs.declared.Step.the-variants.{Base, Inserted}
+use Rattle.rules.proofs.Tests.{both, left, right, fails-if, passes-if, same-test, count-same, count-strictly}
+use Rattle.rules.proofs.Digits.{length-table, table-at, ceil-covers}
+use Rattle.rules.proofs.Weaving.{weave-neighbours}
+
+-- one more number, which is a member or not (a), with room left or not (c)
+one-more : (x y k : ℕ) (a c : Bool) → ltb x k ≡ c → y ≡ min x k → y + digit (a && c) ≡ min (x + digit a) k
+one-more x y k true true e h = omega (arith, ltb-true x k e)
+one-more x y k true false e h = omega (arith, ltb-false x k e)
+one-more x y k false c e h = omega arith
+
+-- the k lowest members number k, or all where there are fewer
+pub count-among : (n k : ℕ) (f : ℕ → Bool) → count n (among k f) ≡ min (count n f) k
+unfolding count among
+count-among zero k f = omega arith
+count-among (suc n) k f = one-more (count n f) _ k (f n) _ refl (count-among n k f)
+
+-- the k lowest members are all, where k is no less than their number
+pub among-all : (n k : ℕ) (f : ℕ → Bool) → count n f ≤ k → {m : ℕ} → m < n → among k f m ≡ f m
+unfolding among
+among-all n k f h {m} l =
+    same-test (among k f m) (f m) (left (f m) _) (λ e. passes-if (among k f m) (λ z. let c = count-strictly n (among k f) f (λ i _. left (f i) _) l z e in omega (arith, count-among n k f)))
+
+-- the lowest stay among more
+pub among-more : (f : ℕ → Bool) {j k : ℕ} → j ≤ k → (m : ℕ) → among j f m ≡ true → among k f m ≡ true
+unfolding among
+among-more f {j} {k} h m e = both (left (f m) _ e) (lt-ltb (count m f) k (omega (arith, ltb-true (count m f) j (right (f m) e))))
+
+-- none are among the 0 lowest
+pub among-none : (f : ℕ → Bool) (m : ℕ) → among 0 f m ≡ false
+unfolding among
+among-none f m = fails-if (among 0 f m) (λ e. omega (arith, ltb-true (count m f) 0 (right (f m) e)))
+
+-- two tests that never pass together, and pass only where a third does, pass together no more often than it
+pub count-apart : (n : ℕ) (p q r : ℕ → Bool) → ((i : ℕ) → i < n → digit (p i) + digit (q i) ≤ digit (r i)) → count n p + count n q ≤ count n r
+unfolding count
+count-apart zero p q r h = omega arith
+count-apart (suc n) p q r h = omega (arith, count-apart n p q r (λ i l. h i (omega arith)), h n (omega arith))
+
+-- net m's value at stage j after base vector i
+stageValue : Bases → ℕ → ℕ → ℕ → Bool
+stageValue s i j m = cond (among (j * s .limit) (differs s i) m) (s .value (i + 1) m) (s .value i m)
+
+-- a net differs between two stages only where it is among the second's lowest (c) and not among the first's (a)
+switch : (a c new old : Bool) → (a ≡ true → c ≡ true) → digit (xor (cond a new old) (cond c new old)) + digit a ≤ digit c
+unfolding xor
+switch true false new old h = absurd (false≢true (h refl))
+switch true true true old h = omega arith
+switch true true false old h = omega arith
+switch false false new true h = omega arith
+switch false false new false h = omega arith
+switch false true true true h = omega arith
+switch false true true false h = omega arith
+switch false true false true h = omega arith
+switch false true false false h = omega arith
+
+-- from one stage to the next at most SSOL nets change
+stages-within : (s : Bases) (i j : ℕ) → count (s .nets) (λ m. xor (stageValue s i j m) (stageValue s i (suc j) m)) ≤ s .limit
+unfolding stageValue
+stages-within s i j =
+    let d = differs s i in
+    let low = j * s .limit in
+    let high = suc j * s .limit in
+    let h = count-apart (s .nets) (λ m. xor (stageValue s i j m) (stageValue s i (suc j) m)) (among low d) (among high d) (λ m l. switch (among low d m) (among high d m) _ _ (among-more d (omega (arith, suc-mul j (s .limit))) m)) in
+    omega (arith, count-among (s .nets) low d, count-among (s .nets) high d, suc-mul j (s .limit))
+
+-- each vector from base i up to the next is a stage
+stage-at : (s : Bases) (i : ℕ) (d : Step) (k : ℕ) → k ≤ length (between s i) → vectorOf s (getD (Base i ∷ between s i) k d) .value ≡ stageValue s i k
+unfolding stageValue vectorOf between
+stage-at s i d zero h = fun-ext (λ m. rw (zero-mul (s .limit), among-none (differs s i) m))
+stage-at s i d (suc k) h = rw (table-at (insertedAfter s i) _ d (rw (length-table (insertedAfter s i) (λ t. Inserted i (t + 1))) at h), add-one k)
+
+-- the new value where the two differ, else the old, is the new
+take-new : (old new : Bool) → new ≡ cond (xor old new) new old
+unfolding xor
+take-new true true = refl
+take-new true false = refl
+take-new false true = refl
+take-new false false = refl
+
+-- by the stage after the last inserted vector no differing net is left
+stages-enough : (s : Bases) (i : ℕ) → 0 < s .limit → i + 1 < s .size → changes s i ≤ suc (length (between s i)) * s .limit
+unfolding between insertedAfter
+stages-enough s i p h =
+    let c = ceil (changes s i) (s .limit) in
+    let e : length (between s i) ≡ c - 1 = length-table _ _ ∙ rw (lt-ltb (i + 1) (s .size) h) in
+    let more : c ≤ suc (length (between s i)) = omega arith in
+    omega (arith, ceil-covers (changes s i) (s .limit) p, mul-le-mul-right (s .limit) more)
+
+-- so that stage is the next base vector
+stage-last : (s : Bases) (i : ℕ) → 0 < s .limit → i + 1 < s .size → (m : ℕ) → m < s .nets → vectorOf s (Base (i + 1)) .value m ≡ stageValue s i (suc (length (between s i))) m
+unfolding stageValue vectorOf changes differs
+stage-last s i p h m l =
+    rw (among-all (s .nets) (suc (length (between s i)) * s .limit) (differs s i) (stages-enough s i p h) l) (take-new (s .value i m) (s .value (i + 1) m))
+
+-- two neighbouring vectors of a plan differ in at most SSOL nets
+pub neighbours-within : (s : Bases) → 0 < s .limit → (t : ℕ) → t + 1 < length (stepsOf s) → count (s .nets) (λ m. xor (vectorOf s (getD (stepsOf s) t (Base 0)) .value m) (vectorOf s (getD (stepsOf s) (t + 1) (Base 0)) .value m)) ≤ s .limit
+unfolding stepsOf
+neighbours-within s p =
+    weave-neighbours Base (between s) (s .size) (Base 0) (λ a c. count (s .nets) (λ m. xor (vectorOf s a .value m) (vectorOf s c .value m)) ≤ s .limit)
+    (λ i l k h. rw (stage-at s i (Base 0) k (omega arith), stage-at s i (Base 0) (suc k) h) (stages-within s i k))
+    (λ i l. let k = length (between s i) in rw (stage-at s i (Base 0) k (omega arith), count-same (s .nets) _ _ (λ m q. ap (xor (stageValue s i k m)) (stage-last s i p l m q))) (stages-within s i k))
+
+-- and so on any board
+pub limit-kept : (b : Board) → 0 < b .limit → (t : ℕ) → t + 1 < totalOf b → count (b .nets) (λ m. xor (vectorAt b t .value m) (vectorAt b (t + 1) .value m)) ≤ b .limit
+unfolding totalOf vectorAt planOf basesOf
+limit-kept b = neighbours-within (basesOf b)

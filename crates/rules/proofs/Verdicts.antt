@@ -1,0 +1,122 @@
+-- Theorem 1, "lowest is lowest": what a list of checks answers, for every check at once. The idea: one check is one search for its
+-- lowest place, and the list goes on exactly where that search finds none.
+use Prim.Native.Nat.{ℕ, _<_, _≤_}
+use mathlib.Core.Path.{_≡_, refl, sym, _∙_, ap, subst}
+use mathlib.Core.Logic.{_⊎_, inl, inr, ⊎-elim}
+use mathlib.Core.Bool.{Bool, true, false}
+use mathlib.Core.List.{List, [], _∷_, _++_, map}
+use native.Mathlib.Omega.{arith}
+use borrow.Author.Tests.{lt-ltb, le-ltb}
+use Rattle.rules.specs.Basics.{least}
+use Rattle.rules.specs.Refusals.{Check, judge, refuse, numberOf, placeOf, secondOf, fileChecks, netChecks, controlChecks, earlyChecks, boardChecks, countChecks, groupsChecks, vectorChecks, marksChecks}
+use Rattle.rules.specs.declared.Refusal.{Refusal}
+use Rattle.rules.specs.declared.Verdict.{Verdict}
+use Rattle.rules.specs.declared.Verdict.the-variants.{Accepted, Refused}
+use Rattle.rules.proofs.Tests.{order, Lowest, least-lowest, least-at, least-none}
+
+-- a check passes: it applies at none of its places
+abbrev pub Passes : Check → Type 0
+Passes check = (i : ℕ) → i < check .places → check .fails i ≡ false
+
+-- a check applies, and this is the lowest of its places at which it does
+pub record Applies (check : Check) (place : ℕ) : Type 0 where
+  pub within : place < check .places
+  pub applies : check .fails place ≡ true
+  pub lowest : (i : ℕ) → i < place → check .fails i ≡ false
+
+-- each check of a list passes
+abbrev pub AllPass : List Check → Type 0
+AllPass [] = Unit
+AllPass (check ∷ checks) = Passes check × AllPass checks
+
+-- the first check of the list that applies has this number, and applies lowest at this place
+pub data First (number place : ℕ) : List Check → Type 0 where
+  here : {check : Check} {checks : List Check} → check .number ≡ number → Applies check place → First number place (check ∷ checks)
+  later : {check : Check} {checks : List Check} → Passes check → First number place checks → First number place (check ∷ checks)
+
+-- a verdict is one or the other
+pub never : (r : Refusal) → Refused r ≡ Accepted → ⊥
+never r e = let z : _≡_ {A = ℕ} 0 1 = cc in omega arith
+
+-- one check: it passes, and the list goes on
+pub judge-passes : (check : Check) (checks : List Check) → Passes check → judge (check ∷ checks) ≡ judge checks
+unfolding judge
+judge-passes check checks h =
+    rw (least-none (check .places) (check .fails) h, le-ltb (check .places) (check .places) (omega arith))
+
+-- or it applies, and its lowest place is given
+pub judge-applies : (check : Check) (checks : List Check) {place : ℕ} → Applies check place → judge (check ∷ checks) ≡ refuse (check .number) place
+unfolding judge
+judge-applies check checks {place} h =
+    rw (least-at (check .places) (check .fails) (h .within) (h .applies) (h .lowest), lt-ltb place (check .places) (h .within))
+
+-- which of the two, by the search
+cases : (check : Check) → Passes check ⊎ ((place : ℕ) × Applies check place)
+cases check = go (least (check .places) (check .fails)) (least-lowest (check .places) (check .fails))
+  where
+    go : (k : ℕ) → Lowest (check .fails) 0 (check .places) k → Passes check ⊎ ((place : ℕ) × Applies check place)
+    go k s =
+        ⊎-elim
+        (λ (h : k < check .places). inr (k, record { within = h; applies = s .passes h; lowest = λ i l. s .lower i (omega arith) l }))
+        (λ (h : check .places ≤ k). inl (λ i l. s .lower i (omega arith) (omega arith)))
+        (order k (check .places))
+
+-- accepted exactly where every check passes
+pub all-pass : (checks : List Check) → judge checks ≡ Accepted → AllPass checks
+all-pass [] e = tt
+all-pass (check ∷ checks) e =
+    ⊎-elim
+    (λ (h : Passes check). (h, all-pass checks (sym (judge-passes check checks h) ∙ e)))
+    (λ f. absurd (never _ (sym (judge-applies check checks (f .1)) ∙ e)))
+    (cases check)
+
+pub accepted : (checks : List Check) → AllPass checks → judge checks ≡ Accepted
+unfolding judge
+accepted [] h = refl
+accepted (check ∷ checks) h = judge-passes check checks (h .0) ∙ accepted checks (h .1)
+
+-- refused exactly where the first check that applies has that number and applies lowest at that place; the second place is 0
+pub first-given : (checks : List Check) {number place : ℕ} → First number place checks → judge checks ≡ refuse number place
+first-given (check ∷ checks) {place = place} (here e h) =
+    judge-applies check checks h ∙ ap (λ (n : ℕ). refuse n place) e
+first-given (check ∷ checks) (later h first) = judge-passes check checks h ∙ first-given checks first
+
+pub given-first : (checks : List Check) (r : Refusal) → judge checks ≡ Refused r → First (r .number) (r .place) checks × (r .second ≡ 0)
+unfolding judge numberOf placeOf secondOf
+given-first [] r e = absurd (never r (sym e))
+given-first (check ∷ checks) r e =
+    ⊎-elim
+    (λ (h : Passes check). let f = given-first checks r (sym (judge-passes check checks h) ∙ e) in (later h (f .0), f .1))
+    (λ f. let q = sym (judge-applies check checks (f .1)) ∙ e in (here (ap numberOf q) (subst (Applies check) (ap placeOf q) (f .1)), sym (ap secondOf q)))
+    (cases check)
+
+-- a list of checks after another: the first list decides unless it accepts
+pub judge-append : (xs ys : List Check) → judge xs ≡ Accepted → judge (xs ++ ys) ≡ judge ys
+judge-append [] ys e = refl
+judge-append (check ∷ checks) ys e =
+    let h = all-pass (check ∷ checks) e in
+    judge-passes check (checks ++ ys) (h .0) ∙ judge-append checks ys (accepted checks (h .1))
+
+pub append-pass : (xs ys : List Check) → AllPass (xs ++ ys) → AllPass xs × AllPass ys
+append-pass [] ys h = (tt, h)
+append-pass (check ∷ checks) ys h = let r = append-pass checks ys (h .1) in ((h .0, r .0), r .1)
+
+-- "Checked in ascending order": the numbers of each question's checks
+pub numbers : List Check → List ℕ
+numbers checks = map (λ (check : Check). check .number) checks
+
+pub count-numbers : (file : List ℕ) → numbers (countChecks file) ≡ 1 ∷ 2 ∷ 3 ∷ 4 ∷ 5 ∷ 6 ∷ 7 ∷ 8 ∷ 9 ∷ 10 ∷ 11 ∷ 12 ∷ []
+unfolding numbers countChecks boardChecks earlyChecks fileChecks netChecks controlChecks
+count-numbers file = refl
+
+pub groups-numbers : (file buffer : List ℕ) → numbers (groupsChecks file buffer) ≡ numbers (countChecks file) ++ (15 ∷ [])
+unfolding numbers groupsChecks countChecks boardChecks earlyChecks fileChecks netChecks controlChecks
+groups-numbers file buffer = refl
+
+pub vector-numbers : (file : List ℕ) (number : ℕ) (buffer : List ℕ) → numbers (vectorChecks file number buffer) ≡ numbers (countChecks file) ++ (13 ∷ 15 ∷ [])
+unfolding numbers vectorChecks countChecks boardChecks earlyChecks fileChecks netChecks controlChecks
+vector-numbers file number buffer = refl
+
+pub marks-numbers : (file capture buffer : List ℕ) → numbers (marksChecks file capture buffer) ≡ numbers (countChecks file) ++ (14 ∷ 15 ∷ [])
+unfolding numbers marksChecks countChecks boardChecks earlyChecks fileChecks netChecks controlChecks
+marks-numbers file capture buffer = refl
