@@ -6,7 +6,8 @@ use mathlib.Core.List.{List, [], _∷_, _++_, map}
 use lib.Dec.{eqb}
 use lib.ListN.{length, getD, replicate}
 use Rattle.rules.specs.Basics.{any, all, count, largest, seek, least, table, has, ceil, bit, word, rowBytes, rowByte, rowOf}
-use Rattle.rules.specs.File.{Board, Sums, byteAt, numberAt, added, sumsFrom, sumsOf, blocksIn, blockAt, sumsRight, zeros, headRight, headerRight, cellsOf, netsOf, limitOf, recordsIn, cellBlockRight, recordAt, kindAt, onAt, controlAt, netAt, ofKind2, tableOf, recordOf, kindOf, onValueOf, controlOf, netOf, boardOf, summed, none}
+use Rattle.rules.specs.File.{Board, byteAt, numberAt, added, sumsFrom, sumsOf, blocksIn, blockAt, sumsRight, zeros, headRight, headerRight, cellsOf, netsOf, limitOf, recordsIn, cellBlockRight, recordAt, kindAt, onAt, controlAt, netAt, ofKind2, tableOf, recordOf, kindOf, onValueOf, controlOf, netOf, boardOf, summed, none}
+use Rattle.rules.specs.declared.Sums.{Sums}
 use Rattle.rules.specs.declared.Cell.{Cell}
 use Rattle.rules.specs.declared.Cell.the-variants.{Internal, Control, ThreeState}
 use Rattle.rules.specs.Drivers.{controlled, controlFor, isControl, alwaysOn, isInput, onNet, outputOf, driverOf, drives, drivers, controls, degree, meets, inside, crosses, groupsOf}

@@ -90,12 +90,22 @@ given-first (check ∷ checks) r e =
     (λ f. let q = sym (judge-applies check checks (f .1)) ∙ e in (here (ap numberOf q) (subst (Applies check) (ap placeOf q) (f .1)), sym (ap secondOf q)))
     (cases check)
 
--- a list of checks after another: the first list decides unless it accepts
+-- what one list answers, and where it accepts what the next does
+abbrev pub andThen : Verdict → Verdict → Verdict
+andThen Accepted next = next
+andThen (Refused r) next = Refused r
+
+pub judge-then : (xs ys : List Check) → judge (xs ++ ys) ≡ andThen (judge xs) (judge ys)
+unfolding judge
+judge-then [] ys = refl
+judge-then (check ∷ checks) ys =
+    ⊎-elim
+    (λ (h : Passes check). judge-passes check (checks ++ ys) h ∙ judge-then checks ys ∙ ap (λ (v : Verdict). andThen v (judge ys)) (sym (judge-passes check checks h)))
+    (λ f. judge-applies check (checks ++ ys) (f .1) ∙ ap (λ (v : Verdict). andThen v (judge ys)) (sym (judge-applies check checks (f .1))))
+    (cases check)
+
 pub judge-append : (xs ys : List Check) → judge xs ≡ Accepted → judge (xs ++ ys) ≡ judge ys
-judge-append [] ys e = refl
-judge-append (check ∷ checks) ys e =
-    let h = all-pass (check ∷ checks) e in
-    judge-passes check (checks ++ ys) (h .0) ∙ judge-append checks ys (accepted checks (h .1))
+judge-append xs ys e = judge-then xs ys ∙ ap (λ (v : Verdict). andThen v (judge ys)) e
 
 pub append-pass : (xs ys : List Check) → AllPass (xs ++ ys) → AllPass xs × AllPass ys
 append-pass [] ys h = (tt, h)

@@ -7,6 +7,7 @@ use lib.ListN.{length, getD, take, drop}
 use Rattle.rules.specs.Basics.{all}
 use Rattle.rules.specs.declared.Cell.{Cell}
 use Rattle.rules.specs.declared.Cell.the-variants.{Internal, Input, Control, ThreeState, TwoState}
+use Rattle.rules.specs.declared.Sums.{Sums}
 use Rattle.rules.specs.declared.Record.{Record}
 use Rattle.rules.specs.declared.Record.the-variants.{Means, Broken}
 
@@ -42,10 +43,6 @@ numberAt file i = byteAt file i + 256 * byteAt file (i + 1)
 -- "both sums wrapping at 65,536"
 abbrev pub wrapped : ℕ → ℕ
 wrapped n = n % 65536
-
-pub record Sums : Type 0 where
-  pub a : ℕ
-  pub b : ℕ
 
 -- "add the byte to a, then a to b"
 unfoldable pub added : Sums → ℕ → Sums

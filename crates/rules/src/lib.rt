@@ -23,6 +23,12 @@ pub enum Record {
     Broken,
 }
 
+// The two sums of a block.
+pub struct Sums {
+    pub a: u16,
+    pub b: u16,
+}
+
 // A numbered refusal with its two places; the second is 0 until a refusal names one.
 pub struct Refusal {
     pub number: u8,
