@@ -9,9 +9,9 @@ use native.Mathlib.Omega.{arith}
 use borrow.Author.Tests.{eqb-true, eqb-false, eq-eqb, ltb-true, ltb-false, lt-ltb, leb-true}
 use lib.Dec.{eqb, ltb, leb}
 use Rattle.rules.specs.Basics.{any, all, count}
-use Rattle.rules.specs.File.{Board, boardOf, kindOf, controlOf, netOf, kindAt, controlAt, netAt, cellsOf, netsOf, limitOf, ofKind2, recordOf, cellOf, isBroken}
+use Rattle.rules.specs.File.{Board, boardOf, kindOf, controlOf, netOf, kindAt, controlAt, netAt, cellsOf, netsOf, limitOf, ofKind2, brokenAt}
 use Rattle.rules.specs.Drivers.{controlled, controlFor, isControl, alwaysOn, onNet, outputOf, driverOf, drives, drivers, outputs, meets, inside, crosses}
-use Rattle.rules.specs.Refusals.{Check, judge, refuse, numberOf, mostDrivers, mostCells, mostNets, mostLimit, within, outside, undriven, clash, clashing, crowded, crossed, unequal, fileChecks, netChecks, controlChecks, earlyChecks, boardChecks}
+use Rattle.rules.specs.Refusals.{Check, judge, refuse, numberOf, mostDrivers, mostCells, mostNets, mostLimit, within, outside, undriven, clash, clashing, crowded, crossed, unequal, shapeChecks, fileChecks, netChecks, controlChecks, earlyChecks, boardChecks}
 use Rattle.rules.specs.declared.Verdict.{Verdict}
 use Rattle.rules.specs.declared.Verdict.the-variants.{Accepted, Refused}
 use Rattle.rules.proofs.Tests.{left, right, or-cases, or-neither, fails-not, passes-not, clashes, any-at, any-member, any-none, none-any, all-at, all-from, all-fails, fails-if, passes-if, both, count-same, decided, order, not-fails}
@@ -33,12 +33,12 @@ pub record Early (b : Board) : Type 0 where
   -- and no net is crowded
   pub few : (n : ℕ) → n < b .nets → drivers b n ≤ mostDrivers
 
-module _ (file : List ℕ) (whole : (p : ℕ) → p < cellsOf file → isBroken (recordOf file p) ≡ false) where
+module _ (file : List ℕ) (whole : (p : ℕ) → p < cellsOf file → brokenAt file p ≡ false) where
   says : (p : ℕ) → p < cellsOf file → SaysAt file p (boardOf file .cell p)
-  unfolding boardOf
+  unfolding boardOf brokenAt
   says p l = record-says file p (whole p l)
 
-  kept-control : (c : ℕ) → c < boardOf file .size → controlled (boardOf file) c ≡ true → (controlFor (boardOf file) c < boardOf file .size) × (isControl (boardOf file) (controlFor (boardOf file) c) ≡ true)
+  pub kept-control : (c : ℕ) → c < boardOf file .size → controlled (boardOf file) c ≡ true → (controlFor (boardOf file) c < boardOf file .size) × (isControl (boardOf file) (controlFor (boardOf file) c) ≡ true)
   unfolding boardOf controlled controlFor isControl ofKind2
   kept-control c l h =
       let s = says c l in
@@ -48,7 +48,7 @@ module _ (file : List ℕ) (whole : (p : ℕ) → p < cellsOf file → isBroken 
       rw (s .control-is)
       (m, eq-eqb _ _ (says (controlAt file c) m .kind-is ∙ eqb-true _ _ (right (ltb (controlAt file c) (cellsOf file)) t)))
 
-  kept-net : (c : ℕ) → c < boardOf file .size → (controlled (boardOf file) c || alwaysOn (boardOf file) c) ≡ true → netOf (boardOf file .cell c) < boardOf file .nets
+  pub kept-net : (c : ℕ) → c < boardOf file .size → (controlled (boardOf file) c || alwaysOn (boardOf file) c) ≡ true → netOf (boardOf file .cell c) < boardOf file .nets
   unfolding boardOf controlled alwaysOn
   kept-net c l h =
       let s = says c l in
@@ -65,7 +65,7 @@ limit-within most n h = (leb-true _ _ (left (leb 1 n) _ h), leb-true _ _ (right 
 
 -- acceptance by checks 1 to 9, taken apart
 pub early : (file : List ℕ) → judge (earlyChecks file) ≡ Accepted → Early (boardOf file)
-unfolding earlyChecks fileChecks netChecks boardOf outside undriven clashing crowded
+unfolding earlyChecks shapeChecks fileChecks netChecks boardOf outside undriven clashing crowded
 early file e =
     let h = all-pass (earlyChecks file) e in
     let limits = passes-not _ (h .1 .1 .1 .0 0 (omega arith)) in

@@ -5,7 +5,9 @@ pub mod Codes
 pub mod Weaving
 pub mod Limit
 pub mod Verdicts
+pub mod Searching
 pub mod Records
+pub mod Shape
 pub mod Acceptance
 pub mod Counting
 pub mod Driving

@@ -89,3 +89,30 @@ record-says file p e = go (recordOf file p) refl e
     go : (r : Record) → recordOf file p ≡ r → isBroken r ≡ false → SaysAt file p (cellOf r)
     go (Means cell) q h = table-says _ _ _ _ _ _ cell q
     go Broken q h = absurd (false≢true (sym h))
+
+-- a record that is not broken needs no second look at its columns: its kind says which of them its cell holds
+abbrev pub plainCell : ℕ → ℕ → ℕ → ℕ → Cell
+plainCell kind on control net =
+    byKind kind Internal (Input (record { 0 = net })) (Control (eqb on 1)) (ThreeState (record { 0 = control }) (record { 0 = net })) (TwoState (record { 0 = net })) Internal
+
+kept : (fits : Bool) (cell : Cell) → isBroken (means fits cell) ≡ false → cellOf (means fits cell) ≡ cell
+kept true cell h = refl
+kept false cell h = absurd (false≢true (sym h))
+
+-- one choice for both sides
+choose : (a : Bool) (x y : Record) (u v : Cell) → (isBroken x ≡ false → cellOf x ≡ u) → (isBroken y ≡ false → cellOf y ≡ v) → isBroken (cond a x y) ≡ false → cellOf (cond a x y) ≡ cond a u v
+choose true x y u v f g h = f h
+choose false x y u v f g h = g h
+
+plain-table : (kind on control net : ℕ) (switched connected : Bool) → isBroken (tableOf kind on control net switched connected) ≡ false → cellOf (tableOf kind on control net switched connected) ≡ plainCell kind on control net
+unfolding tableOf
+plain-table kind on control net switched connected =
+    choose (eqb kind 0) _ _ _ _ (kept (eqb on 0 && eqb control none && eqb net none) _)
+    (choose (eqb kind 1) _ _ _ _ (kept (eqb on 0 && eqb control none && connected) _)
+    (choose (eqb kind 2) _ _ _ _ (kept (ltb on 2 && eqb control none && eqb net none) _)
+    (choose (eqb kind 3) _ _ _ _ (kept (eqb on 0 && switched && connected) _)
+    (choose (eqb kind 4) _ _ _ _ (kept (eqb on 0 && eqb control none && connected) _) (λ h. absurd (false≢true (sym h)))))))
+
+pub plain-cell : (file : List ℕ) (p : ℕ) → isBroken (recordOf file p) ≡ false → cellOf (recordOf file p) ≡ plainCell (kindAt file p) (onAt file p) (controlAt file p) (netAt file p)
+unfolding recordOf
+plain-cell file p = plain-table _ _ _ _ _ _

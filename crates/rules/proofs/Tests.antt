@@ -3,7 +3,7 @@ use Prim.Native.Nat.{ℕ, zero, suc, _+_, _-_, _*_, _≤_, _<_, max}
 use mathlib.Core.Path.{_≡_, refl, sym, _∙_, ap, ap₂, fun-ext}
 use mathlib.Core.Logic.{_⊎_, inl, inr, ⊎-elim}
 use mathlib.Core.Bool.{Bool, true, false, cond, not, _&&_, _||_, Bool·beq, xor, true≢false, false≢true}
-use native.Mathlib.Nat.{eq-or-lt-of-le, le-of-suc-le-suc, zero-add, add-zero, add-suc, le-max-left, le-max-right}
+use native.Mathlib.Nat.{eq-or-lt-of-le, le-of-suc-le-suc, sub-zero, add-zero, add-suc, le-max-left, le-max-right}
 use native.Mathlib.Omega.{arith}
 use borrow.Author.Tests.{lt-ltb, le-ltb, ltb-true, ltb-false, eqb-true, eq-eqb, ne-eqb}
 use lib.Dec.{ltb, eqb}
@@ -206,11 +206,11 @@ pub record Lowest (p : ℕ → Bool) (from to at : ℕ) : Type 0 where
   pub passes : at < to → p at ≡ true
   pub lower : (j : ℕ) → from ≤ j → j < at → p j ≡ false
 
-seek-lowest : (p : ℕ → Bool) (left i : ℕ) → Lowest p i (i + left) (seek p left i)
+seek-left : (p : ℕ → Bool) (left i : ℕ) → Lowest p i (i + left) (seek p left i)
 unfolding seek
-seek-lowest p zero i =
+seek-left p zero i =
     record { above = omega arith; under = omega arith; passes = λ h. absurd (omega arith); lower = λ j l h. absurd (omega arith) }
-seek-lowest p (suc left) i = go (p i) refl (seek-lowest p left (suc i))
+seek-left p (suc left) i = go (p i) refl (seek-left p left (suc i))
   where
     go : (a : Bool) → p i ≡ a → Lowest p (suc i) (suc i + left) (seek p left (suc i)) → Lowest p i (i + suc left) (cond a i (seek p left (suc i)))
     go true e r =
@@ -218,34 +218,41 @@ seek-lowest p (suc left) i = go (p i) refl (seek-lowest p left (suc i))
     go false e r =
         record { above = let a = r .above in omega arith; under = let a = r .under in omega arith; passes = λ h. r .passes (omega arith); lower = λ j l h. ⊎-elim (λ (q : i ≡ j). rw (← q) e) (λ (q : i < j). r .lower j q h) (eq-or-lt-of-le l) }
 
+pub seek-lowest : (p : ℕ → Bool) {from to : ℕ} → from ≤ to → Lowest p from to (seek p (to - from) from)
+seek-lowest p {from} {to} h =
+    let e : from + (to - from) ≡ to = omega arith in
+    rw e at (seek-left p (to - from) from)
+
 pub least-lowest : (n : ℕ) (p : ℕ → Bool) → Lowest p 0 n (least n p)
 unfolding least
-least-lowest n p = rw zero-add at (seek-lowest p n 0)
+least-lowest n p = rw sub-zero at (seek-lowest p {from = 0} {to = n} (omega arith))
 
 -- two numbers are in order one way or the other
 pub order : (a b : ℕ) → (a < b) ⊎ (b ≤ a)
 order a b = ⊎-elim (λ e. inl (ltb-true a b e)) (λ e. inr (ltb-false a b e)) (decided (ltb a b))
 
 -- the lowest place is the only one that is lowest
-pub least-at : (n : ℕ) (p : ℕ → Bool) {i : ℕ} → i < n → p i ≡ true → ((j : ℕ) → j < i → p j ≡ false) → least n p ≡ i
-least-at n p {i} l e low = go (least n p) (least-lowest n p)
+pub seek-at : (p : ℕ → Bool) {from to at : ℕ} → Lowest p from to at → seek p (to - from) from ≡ at
+seek-at p {from} {to} {at} s = go (seek p (to - from) from) (seek-lowest p (omega arith))
   where
-    go : (k : ℕ) → Lowest p 0 n k → k ≡ i
-    go k s =
+    go : (k : ℕ) → Lowest p from to k → k ≡ at
+    go k r =
         ⊎-elim
-        (λ (h : k < i). absurd (clashes (s .passes (omega arith)) (low k h)))
-        (λ (h : i ≤ k). ⊎-elim (λ (q : i < k). absurd (clashes e (s .lower i (omega arith) q))) (λ (q : k ≤ i). omega arith) (order i k))
-        (order k i)
+        (λ (h : k < at). absurd (clashes (r .passes (omega arith)) (s .lower k (r .above) h)))
+        (λ (h : at ≤ k). ⊎-elim (λ (q : at < k). absurd (clashes (s .passes (omega arith)) (r .lower at (s .above) q))) (λ (q : k ≤ at). omega arith) (order at k))
+        (order k at)
+
+least-only : (n : ℕ) (p : ℕ → Bool) {at : ℕ} → Lowest p 0 n at → least n p ≡ at
+unfolding least
+least-only n p s = rw sub-zero at (seek-at p s)
+
+pub least-at : (n : ℕ) (p : ℕ → Bool) {i : ℕ} → i < n → p i ≡ true → ((j : ℕ) → j < i → p j ≡ false) → least n p ≡ i
+least-at n p l e low =
+    least-only n p (record { above = omega arith; under = omega arith; passes = λ h. e; lower = λ j h q. low j q })
 
 pub least-none : (n : ℕ) (p : ℕ → Bool) → ((j : ℕ) → j < n → p j ≡ false) → least n p ≡ n
-least-none n p none = go (least n p) (least-lowest n p)
-  where
-    go : (k : ℕ) → Lowest p 0 n k → k ≡ n
-    go k s =
-        ⊎-elim
-        (λ (h : k < n). absurd (clashes (s .passes h) (none k h)))
-        (λ (h : n ≤ k). let u = s .under in omega arith)
-        (order k n)
+least-none n p none =
+    least-only n p (record { above = omega arith; under = omega arith; passes = λ h. absurd (omega arith); lower = λ j h q. none j q })
 
 -- a member is counted
 pub count-pos : (n : ℕ) (p : ℕ → Bool) {i : ℕ} → i < n → p i ≡ true → 0 < count n p

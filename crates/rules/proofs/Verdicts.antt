@@ -8,7 +8,7 @@ use mathlib.Core.List.{List, [], _∷_, _++_, map}
 use native.Mathlib.Omega.{arith}
 use borrow.Author.Tests.{lt-ltb, le-ltb}
 use Rattle.rules.specs.Basics.{least}
-use Rattle.rules.specs.Refusals.{Check, judge, refuse, numberOf, placeOf, secondOf, fileChecks, netChecks, controlChecks, earlyChecks, boardChecks, countChecks, groupsChecks, vectorChecks, marksChecks}
+use Rattle.rules.specs.Refusals.{Check, each, judge, refuse, numberOf, placeOf, secondOf, shapeChecks, fileChecks, netChecks, controlChecks, earlyChecks, boardChecks, countChecks, groupsChecks, vectorChecks, marksChecks}
 use Rattle.rules.specs.declared.Refusal.{Refusal}
 use Rattle.rules.specs.declared.Verdict.{Verdict}
 use Rattle.rules.specs.declared.Verdict.the-variants.{Accepted, Refused}
@@ -116,17 +116,38 @@ pub numbers : List Check → List ℕ
 numbers checks = map (λ (check : Check). check .number) checks
 
 pub count-numbers : (file : List ℕ) → numbers (countChecks file) ≡ 1 ∷ 2 ∷ 3 ∷ 4 ∷ 5 ∷ 6 ∷ 7 ∷ 8 ∷ 9 ∷ 10 ∷ 11 ∷ 12 ∷ []
-unfolding numbers countChecks boardChecks earlyChecks fileChecks netChecks controlChecks
+unfolding numbers countChecks boardChecks earlyChecks shapeChecks fileChecks netChecks controlChecks
 count-numbers file = refl
 
 pub groups-numbers : (file buffer : List ℕ) → numbers (groupsChecks file buffer) ≡ numbers (countChecks file) ++ (15 ∷ [])
-unfolding numbers groupsChecks countChecks boardChecks earlyChecks fileChecks netChecks controlChecks
+unfolding numbers groupsChecks countChecks boardChecks earlyChecks shapeChecks fileChecks netChecks controlChecks
 groups-numbers file buffer = refl
 
 pub vector-numbers : (file : List ℕ) (number : ℕ) (buffer : List ℕ) → numbers (vectorChecks file number buffer) ≡ numbers (countChecks file) ++ (13 ∷ 15 ∷ [])
-unfolding numbers vectorChecks countChecks boardChecks earlyChecks fileChecks netChecks controlChecks
+unfolding numbers vectorChecks countChecks boardChecks earlyChecks shapeChecks fileChecks netChecks controlChecks
 vector-numbers file number buffer = refl
 
 pub marks-numbers : (file capture buffer : List ℕ) → numbers (marksChecks file capture buffer) ≡ numbers (countChecks file) ++ (14 ∷ 15 ∷ [])
-unfolding numbers marksChecks countChecks boardChecks earlyChecks fileChecks netChecks controlChecks
+unfolding numbers marksChecks countChecks boardChecks earlyChecks shapeChecks fileChecks netChecks controlChecks
 marks-numbers file capture buffer = refl
+
+-- checks that agree at each of their places judge alike
+pub judge-same : (number places : ℕ) (f g : ℕ → Bool) → ((i : ℕ) → i < places → f i ≡ g i) → judge (each number places f ∷ []) ≡ judge (each number places g ∷ [])
+judge-same number places f g h =
+    ⊎-elim
+    (λ (p : Passes (each number places g)). judge-passes (each number places f) [] (λ i l. h i l ∙ p i l) ∙ sym (judge-passes (each number places g) [] p))
+    (λ a. judge-applies (each number places f) [] (record { within = a .1 .within; applies = h (a .0) (a .1 .within) ∙ a .1 .applies; lowest = λ i l. h i (let w = a .1 .within in omega arith) ∙ a .1 .lowest i l }) ∙ sym (judge-applies (each number places g) [] (a .1)))
+    (cases (each number places g))
+
+-- a row of verdicts: the whole is the first, and where that accepts the rest. A program stops at a refusal, and goes on from an acceptance
+pub record Then (first rest whole : Verdict) : Type 0 where
+  pub row : whole ≡ andThen first rest
+
+pub stopped : {a r w : Verdict} → Then a r w → {v : Verdict} {x : Refusal} → v ≡ a → v ≡ Refused x → v ≡ w
+stopped t e f = rw (t .row, ← e, f)
+
+pub passed : {a r w : Verdict} → Then a r w → {u v : Verdict} → u ≡ a → u ≡ Accepted → v ≡ r → v ≡ w
+passed t e f g = rw (t .row, ← e, f, g)
+
+pub then-append : (xs ys : List Check) → Then (judge xs) (judge ys) (judge (xs ++ ys))
+then-append xs ys = record { row = judge-then xs ys }

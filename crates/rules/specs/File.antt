@@ -193,6 +193,10 @@ abbrev pub isBroken : Record → Bool
 isBroken (Means cell) = false
 isBroken Broken = true
 
+-- "a record breaks the table above"
+unfoldable pub brokenAt : List ℕ → ℕ → Bool
+brokenAt file p = isBroken (recordOf file p)
+
 -- the board: C, N, SSOL, and the cell at each position. All later definitions are over a board, never over bytes
 pub record Board : Type 0 where
   pub size : ℕ

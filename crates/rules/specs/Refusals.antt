@@ -5,7 +5,7 @@ use mathlib.Core.List.{List, [], _∷_, _++_}
 use lib.Dec.{ltb, leb, eqb}
 use lib.ListN.{length}
 use Rattle.rules.specs.Basics.{any, ceil, least, rowBytes}
-use Rattle.rules.specs.File.{Board, blockSize, blockRecords, blocksIn, sumsRight, headerRight, cellsOf, netsOf, limitOf, cellBlockRight, recordOf, isBroken, boardOf}
+use Rattle.rules.specs.File.{Board, blockSize, blockRecords, blocksIn, sumsRight, headerRight, cellsOf, netsOf, limitOf, cellBlockRight, brokenAt, boardOf}
 use Rattle.rules.specs.Drivers.{alwaysOn, controlled, controlFor, outputOf, drivers, drives, crosses, isControl, groupsOf}
 use Rattle.rules.specs.Vectors.{totalOf}
 use Rattle.rules.specs.declared.Refusal.{Refusal}
@@ -114,16 +114,19 @@ once number fails = record { number = number; places = 1; fails = λ place. fail
 abbrev pub each : ℕ → ℕ → (ℕ → Bool) → Check
 each number places fails = record { number = number; places = places; fails = fails }
 
--- refusals 1 to 6: the file
-unfoldable pub fileChecks : List ℕ → List Check
-fileChecks file =
+-- refusals 1 to 5: the file's blocks
+unfoldable pub shapeChecks : List ℕ → List Check
+shapeChecks file =
     once 1 (wrongLength file) ∷
     each 2 (blocksIn file) (λ i. not (sumsRight file i)) ∷
     once 3 (not (headerRight file)) ∷
     once 4 (outside file) ∷
     each 5 (blocksIn file) (blockWrong file) ∷
-    each 6 (cellsOf file) (λ p. isBroken (recordOf file p)) ∷
     []
+
+-- refusals 1 to 6: the file
+unfoldable pub fileChecks : List ℕ → List Check
+fileChecks file = shapeChecks file ++ (each 6 (cellsOf file) (brokenAt file) ∷ [])
 
 -- refusals 7 to 9: the nets
 unfoldable pub netChecks : Board → List Check

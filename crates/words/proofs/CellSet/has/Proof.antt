@@ -1,0 +1,16 @@
+-- `words::CellSet::has` meets its contract: its array has cellWords words, so the number that it passes on is one of theirs.
+use mathlib.Core.Path.{_≡_}
+use native.Mathlib.Omega.{arith}
+use borrow.Author.Needs.{needs}
+use lib.ListN.{length}
+use Rattle.words.specs.Sets.{cellWords}
+use Rattle.words.proofs.CellSet.has.Statement.{statement}
+use Rattle.words.proofs.CellSet.has.Tie as tie
+
+has-requires : tie.Need-has-requires
+has-requires c κs =
+    let e : length (c .before .before .before .args .self .words) ≡ cellWords = search needs in
+    omega arith
+
+pub has-spec : {M : Type 1} → statement M
+has-spec = tie.close (tie.spec (λ c. search needs) (λ c. search needs) has-requires (λ c. search needs))

@@ -1,0 +1,2 @@
+-- What a list of words means, and how two such sets lie.
+pub mod Sets

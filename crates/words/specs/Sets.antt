@@ -1,0 +1,62 @@
+-- What a list of words means: a set of numbers, as a test on them; and how two sets lie. Assumes nothing.
+use Prim.Native.Nat.{ℕ, _/_, _%_, _≤_}
+use mathlib.Core.Path.{_≡_}
+use mathlib.Core.Bool.{Bool, true, false, not, _&&_, _||_}
+use mathlib.Core.List.{List}
+use lib.Dec.{eqb}
+use lib.ListN.{length, getD}
+use Rattle.rules.specs.Basics.{any, all, bit}
+use Rattle.words.specs.declared.Lie.{Lie}
+use Rattle.words.specs.declared.Lie.the-variants.{Apart, Inside, Holds, Equal, Crossing}
+
+-- the words of a set of nets, and of a set of cells
+abbrev pub netWords : ℕ
+netWords = 4
+
+abbrev pub cellWords : ℕ
+cellWords = 16
+
+-- number i is in the set that the words hold
+unfoldable pub member : List ℕ → ℕ → Bool
+member ws i = bit (getD ws (i / 64) 0) (i % 64)
+
+-- the set of nothing
+abbrev pub nothing : ℕ → Bool
+nothing m = false
+
+-- the set with n besides
+abbrev pub plus : (ℕ → Bool) → ℕ → ℕ → Bool
+plus f n m = eqb m n || f m
+
+-- the two sets together
+abbrev pub either : (ℕ → Bool) → (ℕ → Bool) → ℕ → Bool
+either f g m = f m || g m
+
+-- some number below n is in both
+unfoldable pub meetsIn : ℕ → (ℕ → Bool) → (ℕ → Bool) → Bool
+meetsIn n f g = any n (λ m. f m && g m)
+
+-- each number below n that is in f is in g
+unfoldable pub insideIn : ℕ → (ℕ → Bool) → (ℕ → Bool) → Bool
+insideIn n f g = all n (λ m. not (f m) || g m)
+
+-- how two sets lie, by: g holds f, f holds g, they meet
+abbrev pub lieBy : Bool → Bool → Bool → Lie
+lieBy true true meet = Equal
+lieBy true false meet = Inside
+lieBy false true meet = Holds
+lieBy false false true = Crossing
+lieBy false false false = Apart
+
+-- how f lies to g, among the numbers below n: the first that holds of equal, inside, around, crossing; else apart
+unfoldable pub lieOf : ℕ → (ℕ → Bool) → (ℕ → Bool) → Lie
+lieOf n f g = lieBy (insideIn n f g) (insideIn n g f) (meetsIn n f g)
+
+-- as many words as one list may have: a number of a member, or of members, then fits a `usize`
+abbrev pub mostWords : ℕ
+mostWords = 1024
+
+-- two lists of words that are compared or joined word by word
+pub record Alike (a b : List ℕ) : Type 0 where
+  pub long : length a ≡ length b
+  pub few : length a ≤ mostWords
