@@ -1,0 +1,42 @@
+-- What refusal 1 leaves of a file's length, and that a number of two bytes is below 65,536.
+use Prim.Native.Nat.{ℕ, _+_, _*_, _/_, _%_, _≤_, _<_}
+use mathlib.Core.Path.{_≡_}
+use mathlib.Core.Bool.{false, not, _||_}
+use mathlib.Core.List.{List}
+use native.Mathlib.Omega.{arith}
+use borrow.Author.Tests.{eqb-true, eqb-false, ltb-false}
+use lib.Dec.{eqb}
+use lib.ListN.{length, getD}
+use Rattle.rules.specs.File.{blockSize, blockRecords, byteAt, numberAt, cellsOf, recordsIn}
+use Rattle.rules.specs.Refusals.{mostBlocks, wrongLength}
+use Rattle.rules.proofs.Tests.{or-neither, passes-not}
+
+-- the file has at least one block, and whole blocks, and at most 14
+pub record RightLength (file : List ℕ) : Type 0 where
+  pub some : blockSize ≤ length file
+  pub whole : blockSize * (length file / blockSize) ≡ length file
+  pub few : length file / blockSize ≤ mostBlocks
+
+pub right-length : (file : List ℕ) → wrongLength file ≡ false → RightLength file
+unfolding wrongLength
+right-length file h =
+    let long = or-neither (eqb (length file) 0 || not (eqb (length file % blockSize) 0)) h in
+    let odd = or-neither (eqb (length file) 0) (long .0) in
+    let n : length file ≡ 0 → ⊥ = eqb-false _ _ (odd .0) in
+    let m : length file % blockSize ≡ 0 = eqb-true _ _ (passes-not _ (odd .1)) in
+    let l : length file ≤ blockSize * mostBlocks = ltb-false _ _ (long .1) in
+    record { some = omega arith; whole = omega arith; few = omega arith }
+
+-- "numbers little-endian", two bytes
+pub number-low : (file : List ℕ) (i : ℕ) → ((j : ℕ) → getD file j 0 < 256) → numberAt file i < 65536
+unfolding numberAt byteAt
+number-low file i h = omega (arith, h i, h (i + 1))
+
+-- so C is one too, and no block has more than 84 records
+pub cells-low : (file : List ℕ) → ((j : ℕ) → getD file j 0 < 256) → cellsOf file < 65536
+unfolding cellsOf
+cells-low file h = number-low file 10 h
+
+pub records-few : (cells i : ℕ) → recordsIn cells i ≤ blockRecords
+unfolding recordsIn
+records-few cells i = omega arith

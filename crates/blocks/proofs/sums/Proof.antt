@@ -1,0 +1,36 @@
+-- `blocks::sums` meets its contract. The invariant: what is left of the bytes, added to the sums so far, gives the sums of all.
+use Prim.Native.Nat.{_-_, _≤_}
+use mathlib.Core.Path.{_≡_, refl, sym, _∙_}
+use native.Mathlib.Omega.{arith}
+use borrow.Author.Needs.{needs}
+use lib.ListN.{length, drop}
+use Rattle.rules.specs.File.{sumsFrom, sumsOf}
+use Rattle.blocks.proofs.Adding.{sums-next, sums-end}
+use Rattle.blocks.proofs.sums.Statement.{statement}
+use Rattle.blocks.proofs.sums.Tie as tie
+
+abbrev Inv-loop : tie.InvT-loop
+Inv-loop bytes a₀ b₀ i₀ a b i = (i ≤ length bytes) × (sumsFrom (record { a = a; b = b }) (drop i bytes) ≡ sumsOf bytes)
+
+abbrev μ-loop : tie.MeasureT-loop
+μ-loop bytes a₀ b₀ i₀ a b i = length bytes - i
+
+loop-holds : tie.Need-loop-holds Inv-loop μ-loop
+unfolding sumsOf
+loop-holds c = (omega arith, refl)
+
+cast-wrapping-add-u16 : tie.Need-cast-wrapping-add-u16 Inv-loop μ-loop
+cast-wrapping-add-u16 c = omega (arith, c .shared-slice-known2 .given (c .before .before .loop .i))
+
+loop-again : tie.Need-loop-again Inv-loop μ-loop
+loop-again c =
+    (omega arith, sums-next _ _ _ _ (c .before .before .before .loop-test .taken) (c .before .wrapping-add-u16 .ensures) (c .wrapping-add-u162 .ensures) ∙ c .before .before .before .before .loop .inv .1)
+
+returns : tie.Need-returns Inv-loop μ-loop
+returns c =
+    sym (sums-end _ _ (c .before .loop .i) (omega arith)) ∙ c .before .loop .inv .1
+
+pub sums-spec : {M : Type 1} → statement M
+sums-spec =
+    tie.close
+    (tie.spec Inv-loop μ-loop loop-holds (λ c. omega arith) cast-wrapping-add-u16 (λ c κs. search needs) (λ c κs. search needs) (λ c. omega arith) (λ c. omega arith) loop-again returns)
