@@ -1,0 +1,209 @@
+-- Refusals 10 and 11 over the chains: how two gathered net sets lie is whether the control cells cross, and one differing driver along a
+-- control cell's chain is an unequal pair.
+use Prim.Native.Nat.{ℕ, _*_, _+_, _-_, _<_, _≤_}
+use mathlib.Core.Path.{_≡_, refl, sym, _∙_, ap, ap₂}
+use mathlib.Core.Logic.{_⊎_, inl, inr, ⊎-elim}
+use mathlib.Core.Bool.{Bool, true, false, cond, not, _&&_, _||_}
+use mathlib.Core.List.{List}
+use native.Mathlib.Omega.{arith}
+use borrow.Author.Tests.{eqb-true, eqb-false, eq-eqb, ne-eqb, lt-ltb, ltb-true}
+use lib.Dec.{eqb, ltb}
+use lib.ListN.{getD}
+use Rattle.rules.specs.Basics.{any, seek}
+use Rattle.rules.specs.File.{Board, boardOf, cellsOf, netsOf, netOf}
+use Rattle.rules.specs.Drivers.{controlled, controlFor, isControl, onNet, driverOf, drives, drivers, meets, inside, crosses}
+use Rattle.rules.specs.Refusals.{judge, crossed, unequal, fileChecks, mostCells}
+use Rattle.rules.specs.declared.Verdict.the-variants.{Accepted}
+use Rattle.rules.proofs.Tests.{decided, left, right, both, or-left, not-fails, fails-not, clashes, fails-if, passes-if, order, same-test, any-at, any-member, any-none, none-any, Lowest, seek-lowest}
+use Rattle.rules.proofs.Driving.{drives-driver, driver-drives, meets-net}
+use Rattle.rules.proofs.Shape.{laid, shaped, whole-records}
+use Rattle.rules.proofs.Acceptance.{kept-control, kept-net}
+use Rattle.words.specs.Sets.{netWords, cellWords, member, meetsIn, insideIn, lieBy, lieOf}
+use Rattle.words.proofs.Bounds.{meets-bound, inside-bound}
+use Rattle.board.specs.declared.chains.By.the-variants.{ControlCell}
+use Rattle.board.specs.Chains.{keyed}
+use Rattle.board.specs.Controls.{isCrossing, driversAt}
+use Rattle.board.proofs.Chaining.{keyed-control}
+
+-- crossing is: meeting, and neither inside the other
+crossing-by : (x y z : Bool) → isCrossing (lieBy x y z) ≡ (z && not x && not y)
+unfolding isCrossing
+crossing-by true true true = refl
+crossing-by true true false = refl
+crossing-by true false true = refl
+crossing-by true false false = refl
+crossing-by false true true = refl
+crossing-by false true false = refl
+crossing-by false false true = refl
+crossing-by false false false = refl
+
+-- a search over i's partners from i + 1 on: none up to j crosses i
+pub record Uncrossed (b : Board) (i j : ℕ) : Type 0 where
+  pub higher : i < j
+  pub low : j ≤ 64 * cellWords
+  pub none : (x : ℕ) → i < x → x < j → crosses b i x ≡ false
+
+module _ (file : List ℕ) (ok : judge (fileChecks file) ≡ Accepted) where
+  -- a control cell's nets are on the board, and it is a control cell
+  drives-low : (k n : ℕ) → drives (boardOf file) k n ≡ true → n < netsOf file
+  unfolding driverOf onNet boardOf
+  drives-low k n h =
+      let c = drives-driver (boardOf file) k n h in
+      let e = eqb-true (netOf (boardOf file .cell (c .0))) n (left (onNet (boardOf file) n (c .0)) _ (c .2)) in
+      rw e at (kept-net file (whole-records file ok) (c .0) (c .1) (or-left _ (right (onNet (boardOf file) n (c .0)) (c .2))))
+
+  drives-control : (k n : ℕ) → drives (boardOf file) k n ≡ true → isControl (boardOf file) k ≡ true
+  unfolding driverOf boardOf
+  drives-control k n h =
+      let c = drives-driver (boardOf file) k n h in
+      rw (c .3) at (kept-control file (whole-records file ok) (c .0) (c .1) (right (onNet (boardOf file) n (c .0)) (c .2)) .1)
+
+  -- a driver's net and control cell are known
+  pub known : (c : ℕ) → c < boardOf file .size → controlled (boardOf file) c ≡ true → (netOf (boardOf file .cell c) < boardOf file .nets) × (isControl (boardOf file) (controlFor (boardOf file) c) ≡ true)
+  unfolding boardOf
+  known c l x = (kept-net file (whole-records file ok) c l (or-left _ x), kept-control file (whole-records file ok) c l x .1)
+
+  past : (k i : ℕ) → netsOf file ≤ i → drives (boardOf file) k i ≡ false
+  past k i l = fails-if _ (λ t. let b = drives-low k i t in omega arith)
+
+  nets-fit : netsOf file ≤ 64 * netWords
+  nets-fit = let f = laid file (shaped file ok) .nets .few in omega arith
+
+  crossing-sets : (i j : ℕ) → isCrossing (lieOf (64 * netWords) (drives (boardOf file) i) (drives (boardOf file) j)) ≡ (meets (boardOf file) i j && not (inside (boardOf file) i j) && not (inside (boardOf file) j i))
+  unfolding lieOf meets inside meetsIn insideIn boardOf
+  crossing-sets i j =
+      crossing-by (insideIn (64 * netWords) (drives (boardOf file) i) (drives (boardOf file) j)) (insideIn (64 * netWords) (drives (boardOf file) j) (drives (boardOf file) i)) (meetsIn (64 * netWords) (drives (boardOf file) i) (drives (boardOf file) j))
+      ∙ ap₂ (λ (x y : Bool). x && y)
+      (ap₂ (λ (x y : Bool). x && not y) (meets-bound (drives (boardOf file) i) (drives (boardOf file) j) nets-fit (λ m l u. past i m l)) (inside-bound (drives (boardOf file) i) (drives (boardOf file) j) nets-fit (λ m l u. past i m l)))
+      (ap not (inside-bound (drives (boardOf file) j) (drives (boardOf file) i) nets-fit (λ m l u. past j m l)))
+
+  -- how the two sets lie says whether the control cells cross
+  pub crosses-is : (i j : ℕ) (f g : ℕ → Bool) → f ≡ drives (boardOf file) i → g ≡ drives (boardOf file) j → isCrossing (lieOf (64 * netWords) f g) ≡ crosses (boardOf file) i j
+  unfolding crosses
+  crosses-is i j f g e h =
+      ap₂ (λ (x y : ℕ → Bool). isCrossing (lieOf (64 * netWords) x y)) e h ∙ crossing-sets i j ∙ same-test _ _ forth back
+    where
+      b : Board
+      b = boardOf file
+
+      forth : (meets (boardOf file) i j && not (inside (boardOf file) i j) && not (inside (boardOf file) j i)) ≡ true → (isControl (boardOf file) i && isControl (boardOf file) j && meets (boardOf file) i j && not (inside (boardOf file) i j) && not (inside (boardOf file) j i)) ≡ true
+      forth t =
+          let m2 = left (meets (boardOf file) i j && not (inside (boardOf file) i j)) _ t in
+          let m = left (meets (boardOf file) i j) _ m2 in
+          let n = meets-net (boardOf file) i j m in
+          both (both (both (both (drives-control i (n .0) (n .2)) (drives-control j (n .0) (n .3))) m) (right (meets (boardOf file) i j) m2)) (right (meets (boardOf file) i j && not (inside (boardOf file) i j)) t)
+
+      back : (isControl (boardOf file) i && isControl (boardOf file) j && meets (boardOf file) i j && not (inside (boardOf file) i j) && not (inside (boardOf file) j i)) ≡ true → (meets (boardOf file) i j && not (inside (boardOf file) i j) && not (inside (boardOf file) j i)) ≡ true
+      back t =
+          let cc4 = left (isControl (boardOf file) i && isControl (boardOf file) j && meets (boardOf file) i j && not (inside (boardOf file) i j)) _ t in
+          let cc3 = left (isControl (boardOf file) i && isControl (boardOf file) j && meets (boardOf file) i j) _ cc4 in
+          both (both (right (isControl (boardOf file) i && isControl (boardOf file) j) cc3) (right (isControl (boardOf file) i && isControl (boardOf file) j && meets (boardOf file) i j) cc4)) (right (isControl (boardOf file) i && isControl (boardOf file) j && meets (boardOf file) i j && not (inside (boardOf file) i j)) t)
+
+  unmet : (i x : ℕ) (met : ℕ → Bool) → met ≡ meets (boardOf file) i → met x ≡ false → crosses (boardOf file) i x ≡ false
+  unfolding crosses
+  unmet i x met e f =
+      let m : meets (boardOf file) i x ≡ false = ap (λ (g : ℕ → Bool). g x) (sym e) ∙ f in
+      fails-if _ (λ t. clashes (right (isControl (boardOf file) i && isControl (boardOf file) x) (left (isControl (boardOf file) i && isControl (boardOf file) x && meets (boardOf file) i x) _ (left (isControl (boardOf file) i && isControl (boardOf file) x && meets (boardOf file) i x && not (inside (boardOf file) i x)) _ t))) m)
+
+  pub search-from : (i next : ℕ) (met : ℕ → Bool) → met ≡ meets (boardOf file) i → i + 1 ≤ 64 * cellWords → next ≡ seek met (64 * cellWords - (i + 1)) (i + 1) → Uncrossed (boardOf file) i next
+  search-from i next met e l h =
+      let s = seek-lowest met l in
+      let a = s .above in
+      let u = s .under in
+      record { higher = omega arith; low = omega arith; none = λ x y z. unmet i x met e (s .lower x (omega arith) (omega arith)) }
+
+  pub search-on : (i j next : ℕ) (met : ℕ → Bool) → met ≡ meets (boardOf file) i → Uncrossed (boardOf file) i j → j < 64 * cellWords → crosses (boardOf file) i j ≡ false → next ≡ seek met (64 * cellWords - (j + 1)) (j + 1) → (j < next) × Uncrossed (boardOf file) i next
+  search-on i j next met e v l f h =
+      let s = seek-lowest met {from = j + 1} {to = 64 * cellWords} (omega arith) in
+      let a = s .above in
+      let u = s .under in
+      let w = v .higher in
+      (omega arith, record { higher = omega arith; low = omega arith; none = λ x y z. ⊎-elim (λ (q : x < j). v .none x y q) (λ (q : j ≤ x). ⊎-elim (λ (r : j < x). unmet i x met e (s .lower x (omega arith) (omega arith))) (λ (r : x ≤ j). let t : x ≡ j = omega arith in rw t f) (order j x)) (order x j) })
+
+  pub search-found : (i j : ℕ) → Uncrossed (boardOf file) i j → j < cellsOf file → crosses (boardOf file) i j ≡ true → true ≡ crossed (boardOf file) i
+  unfolding crossed boardOf
+  search-found i j v l t = sym (any-at _ _ l (both (lt-ltb i j (v .higher)) t))
+
+  pub search-ended : (i j : ℕ) → Uncrossed (boardOf file) i j → cellsOf file ≤ j → false ≡ crossed (boardOf file) i
+  unfolding crossed boardOf
+  search-ended i j v l =
+      sym (none-any _ _ (λ x m. fails-if _ (λ t. clashes (right (ltb i x) t) (v .none x (ltb-true i x (left (ltb i x) _ t)) (omega arith)))))
+
+-- along k's chain from h: one driver whose net has another count than h's is an unequal pair
+module _ (b : Board) (known : (c : ℕ) → c < b .size → controlled b c ≡ true → (netOf (b .cell c) < b .nets) × (isControl b (controlFor b c) ≡ true)) (k : ℕ) where
+  abbrev pub other : ℕ → ℕ → Bool
+  other first c = keyed b ControlCell k c && not (eqb (driversAt b c) first)
+
+  -- a driver of k at c
+  on : (c : ℕ) → keyed b ControlCell k c ≡ true → (controlled b c ≡ true) × (controlFor b c ≡ k)
+  on c h =
+      let t = sym (keyed-control b k c) ∙ h in
+      (left (controlled b c) _ t, eqb-true _ _ (right (controlled b c) t))
+
+  counts : (c : ℕ) → keyed b ControlCell k c ≡ true → driversAt b c ≡ drivers b (netOf (b .cell c))
+  unfolding driversAt
+  counts c h = rw (on c h .0)
+
+  net-of : (c : ℕ) → c < b .size → keyed b ControlCell k c ≡ true → drives b k (netOf (b .cell c)) ≡ true
+  unfolding driverOf onNet
+  net-of c l h =
+      let o = on c h in
+      rw (o .1) at (driver-drives b (netOf (b .cell c)) c l (both (eq-eqb (netOf (b .cell c)) (netOf (b .cell c)) refl) (o .0)))
+
+  -- a net of k has a driver of k on it
+  driver-at : (n : ℕ) → drives b k n ≡ true → (c : ℕ) × (c < b .size) × (keyed b ControlCell k c ≡ true) × (driversAt b c ≡ drivers b n)
+  unfolding driverOf onNet
+  driver-at n h =
+      let c = drives-driver b k n h in
+      let key = keyed-control b k (c .0) ∙ both (right (onNet b n (c .0)) (c .2)) (eq-eqb _ _ (c .3)) in
+      let e = eqb-true (netOf (b .cell (c .0))) n (left (onNet b n (c .0)) _ (c .2)) in
+      (c .0, c .1, key, counts (c .0) key ∙ ap (drivers b) e)
+
+  pub unequal-other : (h first : ℕ) → h < b .size → keyed b ControlCell k h ≡ true → first ≡ driversAt b h → unequal b k ≡ any (b .size) (other first)
+  unfolding unequal
+  unequal-other h first l key e = same-test _ _ forth back
+    where
+      find : (n : ℕ) → drives b k n ≡ true → (drivers b n ≡ first → ⊥) → any (b .size) (other first) ≡ true
+      find n d z =
+          let c = driver-at n d in
+          any-at _ _ (c .1) (both (c .2) (not-fails (ne-eqb _ _ (λ q. z (sym (c .3) ∙ q)))))
+
+      forth : unequal b k ≡ true → any (b .size) (other first) ≡ true
+      forth t =
+          let n = any-member _ _ (right (isControl b k) t) in
+          let m = any-member _ _ (n .2) in
+          let p = left (drives b k (n .0) && drives b k (m .0)) _ (m .2) in
+          let apart = eqb-false _ _ (fails-not _ (right (drives b k (n .0) && drives b k (m .0)) (m .2))) in
+          ⊎-elim
+          (λ (q : eqb (drivers b (n .0)) first ≡ true). find (m .0) (right (drives b k (n .0)) p) (λ r. apart (eqb-true _ _ q ∙ sym r)))
+          (λ (q : eqb (drivers b (n .0)) first ≡ false). find (n .0) (left (drives b k (n .0)) _ p) (eqb-false _ _ q))
+          (decided (eqb (drivers b (n .0)) first))
+
+      back : any (b .size) (other first) ≡ true → unequal b k ≡ true
+      back t =
+          let c = any-member _ _ t in
+          let kc = left (keyed b ControlCell k (c .0)) _ (c .2) in
+          let apart = eqb-false _ _ (fails-not _ (right (keyed b ControlCell k (c .0)) (c .2))) in
+          let o = on (c .0) kc in
+          let is = known (c .0) (c .1) (o .0) in
+          both (rw (o .1) at (is .1))
+          (any-at _ _ (is .0) (any-at _ _ (known h l (on h key .0) .0) (both (both (net-of (c .0) (c .1) kc) (net-of h l key)) (not-fails (ne-eqb _ _ (λ q. apart (counts (c .0) kc ∙ q ∙ sym (counts h key) ∙ sym e)))))))
+
+  -- an empty chain has no pair
+  pub unequal-none : ((c : ℕ) → c < b .size → keyed b ControlCell k c ≡ false) → unequal b k ≡ false
+  unfolding unequal
+  unequal-none none =
+      fails-if _ (λ t. let n = any-member _ _ (right (isControl b k) t) in let m = any-member _ _ (n .2) in let c = driver-at (n .0) (left (drives b k (n .0)) _ (left (drives b k (n .0) && drives b k (m .0)) _ (m .2))) in clashes (c .2) (none (c .0) (c .1)))
+
+-- over a file
+module _ (file : List ℕ) (ok : judge (fileChecks file) ≡ Accepted) (k : ℕ) where
+  pub other-keyed : (first c : ℕ) → other (boardOf file) (known file ok) k first c ≡ true → keyed (boardOf file) ControlCell k c ≡ true
+  other-keyed first c h = left (keyed (boardOf file) ControlCell k c) _ h
+
+  pub unequal-by : (h first : ℕ) (r : Bool) → h < cellsOf file → keyed (boardOf file) ControlCell k h ≡ true → first ≡ driversAt (boardOf file) h → any (cellsOf file) (other (boardOf file) (known file ok) k first) ≡ r → r ≡ unequal (boardOf file) k
+  unfolding boardOf
+  unequal-by h first r l key e t = sym (unequal-other (boardOf file) (known file ok) k h first l key e ∙ t)
+
+  pub unequal-empty : ((c : ℕ) → c < cellsOf file → keyed (boardOf file) ControlCell k c ≡ false) → false ≡ unequal (boardOf file) k
+  unfolding boardOf
+  unequal-empty none = sym (unequal-none (boardOf file) (known file ok) k none)

@@ -1,0 +1,12 @@
+-- The laws that the functions of this crate share.
+pub mod Reading
+pub mod Chaining
+pub mod Walks
+pub mod Drives
+pub mod Clashing
+pub mod NetChecks
+pub mod Gathering
+pub mod Sets
+pub mod Brought
+pub mod ControlChecks
+pub mod Order

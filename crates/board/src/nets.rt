@@ -1,0 +1,125 @@
+// Refusals 7 to 9: every net has an output, no two of its outputs clash, and it is not crowded.
+ghost use mathlib.Core.Path.{_≡_};
+ghost use mathlib.Core.Bool.{true};
+ghost use mathlib.Core.List.{_∷_, []};
+ghost use Prim.Native.Nat.{ℕ, _<_, _≤_};
+ghost use lib.ListN.{length};
+ghost use Rattle.rules.specs.Basics.{any};
+ghost use Rattle.rules.specs.File.{boardOf, cellsOf, netsOf};
+ghost use Rattle.rules.specs.Refusals.{judge, each, clashing, netChecks};
+ghost use Rattle.board.specs.declared.chains.By.the-variants.{NetOf};
+ghost use Rattle.board.specs.Chains.{keyed, Chains};
+ghost use Rattle.board.specs.Driving.{conflictAt, Counted};
+ghost use Rattle.board.specs.Nets.{noneAt, overAt, Checkable};
+use crate::cells::cell_at;
+use crate::chains::held;
+use crate::drivers::conflict;
+use rules::Verdict;
+
+// "at most 16 controlled drivers on a net"
+const MOST_DRIVERS: u16 = 16;
+
+// Refusal 7: a net whose chain of outputs is empty has none.
+fn undriven_verdict(heads: &[u16], nets: usize) -> Verdict
+    requires { ⌜ nets ≤ length (now heads) ⌝ }
+    requires { ⌜ nets ≤ 65536 ⌝ }
+    ensures { λ r. ⌜ r ≡ judge (each 7 nets (noneAt (now (heads .entry))) ∷ []) ⌝ }
+{
+    let mut n = 0;
+    while n < nets {
+        if heads[n] == 0 {
+            return blocks::refuse(7, n);
+        }
+        n += 1;
+    }
+    Verdict::Accepted
+}
+
+// Some lower output of the net of the output at c may not stand beside it.
+fn clash_below(file: &[u8], heads: &[u16], links: &[u16], c: usize) -> bool
+    requires { ⌜ Chains (now file) NetOf (now heads) (now links) ⌝ }
+    requires { ⌜ c < cellsOf (now file) ⌝ }
+    ensures { λ r. ⌜ ((n : ℕ) → keyed (boardOf (now (file .entry))) NetOf n c ≡ true → r ≡ any c (conflictAt (boardOf (now (file .entry))) n c)) ⌝ }
+{
+    let cell = cell_at(file, c);
+    let mut at = held(links, c);
+    while 0 < at {
+        let d = at - 1;
+        if conflict(cell, cell_at(file, d)) {
+            return true;
+        }
+        at = held(links, d);
+    }
+    false
+}
+
+// Two outputs of net n clash.
+fn clashes(file: &[u8], heads: &[u16], links: &[u16], n: usize) -> bool
+    requires { ⌜ Chains (now file) NetOf (now heads) (now links) ⌝ }
+    requires { ⌜ n < netsOf (now file) ⌝ }
+    ensures { λ r. ⌜ r ≡ clashing (boardOf (now (file .entry))) n ⌝ }
+{
+    let mut at = held(heads, n);
+    while 0 < at {
+        let c = at - 1;
+        if clash_below(file, heads, links, c) {
+            return true;
+        }
+        at = held(links, c);
+    }
+    false
+}
+
+// Refusal 8: a net two of whose outputs clash.
+fn clash_verdict(file: &[u8], heads: &[u16], links: &[u16], nets: usize) -> Verdict
+    requires { ⌜ Chains (now file) NetOf (now heads) (now links) ⌝ }
+    requires { ⌜ nets ≡ netsOf (now file) ⌝ }
+    ensures { λ r. ⌜ r ≡ judge (each 8 (netsOf (now (file .entry))) (clashing (boardOf (now (file .entry)))) ∷ []) ⌝ }
+{
+    let mut n = 0;
+    while n < nets {
+        if clashes(file, heads, links, n) {
+            return blocks::refuse(8, n);
+        }
+        n += 1;
+    }
+    Verdict::Accepted
+}
+
+// Refusal 9: a net with over 16 controlled drivers.
+fn crowded_verdict(counts: &[u16], nets: usize) -> Verdict
+    requires { ⌜ nets ≤ length (now counts) ⌝ }
+    requires { ⌜ nets ≤ 65536 ⌝ }
+    ensures { λ r. ⌜ r ≡ judge (each 9 nets (overAt (now (counts .entry))) ∷ []) ⌝ }
+{
+    let mut n = 0;
+    while n < nets {
+        if MOST_DRIVERS < counts[n] {
+            return blocks::refuse(9, n);
+        }
+        n += 1;
+    }
+    Verdict::Accepted
+}
+
+// Refusals 7 to 9, over the chains of outputs by net and the counts of drivers.
+pub fn nets_verdict(
+    file: &[u8],
+    heads: &[u16],
+    links: &[u16],
+    counts: &[u16],
+    nets: usize,
+) -> Verdict
+    requires { ⌜ Checkable (now file) (now heads) (now links) (now counts) nets ⌝ }
+    ensures { λ r. ⌜ r ≡ judge (netChecks (boardOf (now (file .entry)))) ⌝ }
+{
+    let undriven = undriven_verdict(heads, nets);
+    let Verdict::Accepted = undriven else {
+        return undriven;
+    };
+    let clash = clash_verdict(file, heads, links, nets);
+    let Verdict::Accepted = clash else {
+        return clash;
+    };
+    crowded_verdict(counts, nets)
+}
