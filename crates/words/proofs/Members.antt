@@ -24,6 +24,12 @@ member-at ws j k h =
     let r : (64 * j + k) % 64 ≡ k = omega arith in
     rw (q, r)
 
+-- word j of what an operation on digits makes of two sets, where word j of the first is still as it was
+pub combined-at : (op : Bool → Bool → Bool) (made : ℕ → ℕ → ℕ) → ((a b k : ℕ) → bit (made a b) k ≡ op (bit a k) (bit b k)) → (before from after : List ℕ) (j : ℕ) → getD after j 0 ≡ getD before j 0 → (k : ℕ) → k < 64 → bit (made (getD after j 0) (getD from j 0)) k ≡ op (member before (64 * j + k)) (member from (64 * j + k))
+combined-at op made each before from after j e k h =
+    each (getD after j 0) (getD from j 0) k
+    ∙ ap₂ op (ap (λ (w : ℕ). bit w k) e ∙ sym (member-at before j k h)) (sym (member-at from j k h))
+
 -- from i on a number of the same word is, as far on, a digit of that word shifted down to i
 pub member-from : (ws : List ℕ) (i : ℕ) {m : ℕ} → i ≤ m → m < 64 * (i / 64 + 1) → member ws m ≡ bit (getD ws (i / 64) 0 / 2 ^ (i % 64)) (m - i)
 unfolding member

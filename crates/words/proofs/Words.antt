@@ -8,7 +8,7 @@ use native.Mathlib.Numerals.{one-add}
 use native.Mathlib.Omega.{arith}
 use borrow.Author.Tests.{eq-eqb, ne-eqb, ltb-true}
 use lib.Dec.{eqb, ltb, lit<}
-use lib.Bits.{bitAnd, bitOr, bitXor, and-shr, or-shr, xor-shr, and-mod, or-mod, xor-mod, or-shifted}
+use lib.Bits.{bitAnd, bitOr, bitXor, and-mask, and-shr, or-shr, xor-shr, and-mod, or-mod, xor-mod, or-shifted}
 use lib.Count.{ones, trailingZeros, under, ones-cat}
 use lib.Pow.{pow-pos, pow-mono, shl-exact, shr-shr}
 use Rattle.rules.specs.Basics.{digit, count, bit, word}
@@ -184,3 +184,8 @@ trailing-lowest (suc n) w = go (w % 2) refl (omega arith) (trailingZeros n (w / 
     go (suc zero) e h t s =
         record { above = omega arith; under = omega arith; passes = λ l. bit-first w ∙ rw e; lower = λ j l q. absurd (omega arith) }
     go (suc (suc d)) e h t s = absurd (omega arith)
+
+-- digit k of a word, as the code reads it
+pub read-digit : (w k : ℕ) → eqb (bitAnd (w / 2 ^ k) 1) 1 ≡ bit w k
+unfolding bit
+read-digit w k = ap (λ (x : ℕ). eqb x 1) (and-mask (w / 2 ^ k) 1)

@@ -8,7 +8,7 @@ ghost use Prim.Native.Nat.{_*_, _-_, _<_, _≤_};
 ghost use lib.ListN.{length};
 ghost use Rattle.rules.specs.Basics.{bit, count, seek};
 ghost use Rattle.rules.specs.Vectors.{among};
-ghost use Rattle.words.specs.Sets.{member, plus, either, meetsIn, insideIn, lieOf, mostWords, Alike};
+ghost use Rattle.words.specs.Sets.{member, plus, either, unlike, meetsIn, insideIn, lieOf, mostWords, Alike};
 use super::Lie;
 
 // Number i is a member.
@@ -37,6 +37,18 @@ pub fn join(into: &mut [u64], from: &[u64])
     let mut j = 0;
     while j < into.len() {
         into[j] = into[j] | from[j];
+        j += 1;
+    }
+}
+
+// The members of `from` change sides: those of `into` leave it, the others become members.
+pub fn flip(into: &mut [u64], from: &[u64])
+    requires { ⌜ Alike (now into) (now from) ⌝ }
+    ensures { λ r. ⌜ member (now (into .exit)) ≡ unlike (member (now (into .entry))) (member (now (from .entry))) ⌝ }
+{
+    let mut j = 0;
+    while j < into.len() {
+        into[j] = into[j] ^ from[j];
         j += 1;
     }
 }

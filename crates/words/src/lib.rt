@@ -6,7 +6,7 @@ ghost use mathlib.Core.Bool.{xor};
 ghost use Prim.Native.Nat.{_*_, _-_, _<_, _≤_};
 ghost use Rattle.rules.specs.Basics.{count, seek, least};
 ghost use Rattle.rules.specs.Vectors.{among};
-ghost use Rattle.words.specs.Sets.{netWords, cellWords, member, nothing, plus, either, meetsIn, lieOf};
+ghost use Rattle.words.specs.Sets.{netWords, cellWords, member, nothing, plus, either, unlike, meetsIn, lieOf};
 use rules::Net;
 use rules::Position;
 
@@ -68,6 +68,16 @@ impl NetSet {
         let mut words = self.words;
         let more = other.words;
         core::join(&mut words, &more);
+        NetSet { words }
+    }
+
+    // The nets of one set that are not in the other.
+    pub fn flip(self, other: NetSet) -> NetSet
+        ensures { λ r. ⌜ member (r .words) ≡ unlike (member (self .words)) (member (other .words)) ⌝ }
+    {
+        let mut words = self.words;
+        let more = other.words;
+        core::flip(&mut words, &more);
         NetSet { words }
     }
 

@@ -1,24 +1,16 @@
 -- `words::core::join` meets its contract: the first j words hold the members of both, the others are as they were.
-use Prim.Native.Nat.{ℕ, _+_, _*_, _-_, _<_}
-use mathlib.Core.Path.{_≡_, sym, _∙_, ap, ap₂}
+use Prim.Native.Nat.{_-_}
+use mathlib.Core.Path.{ap₂}
 use mathlib.Core.Bool.{_||_}
-use mathlib.Core.List.{List}
 use native.Mathlib.Omega.{arith}
 use borrow.Author.Needs.{needs}
 use lib.Bits.{bitOr}
-use lib.ListN.{length, getD}
-use Rattle.rules.specs.Basics.{bit}
+use lib.ListN.{length}
 use Rattle.words.specs.Sets.{member, either}
 use Rattle.words.proofs.Words.{bit-or}
-use Rattle.words.proofs.Members.{member-at, member-out, Written, written-none, written-more, written-all}
+use Rattle.words.proofs.Members.{combined-at, member-out, Written, written-none, written-more, written-all}
 use Rattle.words.proofs.core.join.Statement.{statement}
 use Rattle.words.proofs.core.join.Tie as tie
-
--- word j of both, where word j of the one is still as it was
-joined-at : (before from after : List ℕ) (j : ℕ) → getD after j 0 ≡ getD before j 0 → (k : ℕ) → k < 64 → bit (bitOr (getD after j 0) (getD from j 0)) k ≡ either (member before) (member from) (64 * j + k)
-joined-at before from after j e k h =
-    bit-or (getD after j 0) (getD from j 0) k
-    ∙ ap₂ _||_ (ap (λ (w : ℕ). bit w k) e ∙ sym (member-at before j k h)) (sym (member-at from j k h))
 
 abbrev Inv-loop : tie.InvT-loop
 Inv-loop into₀ from j₀ into j = Written (either (member into₀) (member from)) into₀ j into
@@ -34,7 +26,7 @@ loop-again c =
     let l = c .before .before .before .loop in
     let a = c .before .before .before .before .args in
     written-more _ _ (l .inv) (omega arith) _
-    (joined-at (a .into .now) (a .from .now) (l .into) (l .j) (l .inv .rest (l .j) (omega arith)))
+    (combined-at _||_ bitOr bit-or (a .into .now) (a .from .now) (l .into) (l .j) (l .inv .rest (l .j) (omega arith)))
 
 returns : tie.Need-returns Inv-loop μ-loop
 returns c =
