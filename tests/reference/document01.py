@@ -421,23 +421,27 @@ def total(nets, turn_count, limit):
     return count_
 
 
-def vectors_of(board):
-    """All vectors in order, as (group, values); for accepted boards."""
-    line = base(board.nets, turns(board))
+def woven(line, limit):
+    """The base vectors of `line` with those inserted between them."""
     # "The first vector has no predecessor."
     result = [line[0]]
     for old, new in zip(line, line[1:]):
         differs = differing(old.values, new.values)
-        for t in range(1, inserted_number(len(differs), board.limit) + 1):
+        for t in range(1, inserted_number(len(differs), limit) + 1):
             # "The t-th takes the new value at the t x SSOL lowest-numbered
             # differing nets and the old elsewhere, with the earlier group's
             # drivers on."
             values = list(old.values)
-            for i in differs[:t * board.limit]:
+            for i in differs[:t * limit]:
                 values[i] = new.values[i]
             result.append(Vector(old.group, values))
         result.append(new)
     return result
+
+
+def vectors_of(board):
+    """All vectors in order, as (group, values); for accepted boards."""
+    return woven(base(board.nets, turns(board)), board.limit)
 
 
 def row_of(board, groups_, one):

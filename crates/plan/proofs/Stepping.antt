@@ -1,0 +1,116 @@
+-- A plan's steps, part by part: part i is base vector i with those inserted after it, and `start` is where it starts.
+use Prim.Native.Nat.{ℕ, zero, suc, _+_, _*_, _-_, _/_, _%_, _≤_, _<_}
+use mathlib.Core.Path.{_≡_, refl, sym, _∙_, ap}
+use mathlib.Core.Logic.{_⊎_, inl, inr, ⊎-elim}
+use mathlib.Core.Bool.{Bool, true, false, cond, xor}
+use mathlib.Core.List.{_∷_}
+use native.Mathlib.Nat.{le-trans, mul-le-mul-left, mul-le-mul-right, eq-or-lt-of-le, eq-zero-or-pos, mul-one}
+use native.Mathlib.Numerals.{add-one}
+use native.Mathlib.Omega.{arith}
+use borrow.Author.Tests.{lt-ltb, le-ltb}
+use lib.ListN.{length, getD}
+use Rattle.rules.specs.Basics.{count, ceil}
+use Rattle.rules.specs.Vectors.{Bases, differs, changes, insertedAfter, between, weave, stepsOf}
+use Rattle.rules.specs.declared.Step.the-variants.{Base, Inserted}
+use Rattle.rules.proofs.Tests.{count-le, count-none, order}
+use Rattle.rules.proofs.Digits.{length-table, table-at, ceil-tight, ceil-zero}
+use Rattle.rules.proofs.Weaving.{weave-length, weave-grows, weave-at}
+use Rattle.words.specs.Sets.{netWords}
+use Rattle.words.proofs.Bounds.{count-add}
+use Rattle.plan.specs.declared.steps.Plan.{Plan}
+use Rattle.plan.specs.Patterns.{onesBelow}
+use Rattle.plan.specs.Plans.{basesFor, Small}
+
+-- the number of base vectors
+abbrev pub size : Plan → ℕ
+size p = p .groups * p .wide
+
+pub size-low : (p : Plan) → Small p → size p ≤ 65535 * 20
+size-low p s = le-trans (mul-le-mul-right (p .wide) (s .few)) (mul-le-mul-left 65535 (s .narrow))
+
+pub size-some : (p : Plan) → Small p → 1 ≤ size p
+size-some p s = le-trans (mul-le-mul-right 1 (s .turns)) (mul-le-mul-left (p .groups) (s .coded))
+
+-- what differs lies below N, so a count over all members of a set counts it
+count-cut : (n m : ℕ) (f : ℕ → Bool) → n ≤ m → ((i : ℕ) → n ≤ i → f i ≡ false) → count m f ≡ count n f
+count-cut n m f h none =
+    let e : m ≡ n + (m - n) = omega arith in
+    let rest = count-none (m - n) (λ i. f (n + i)) (λ i l. none (n + i) (omega arith)) in
+    ap (λ (k : ℕ). count k f) e ∙ count-add n (m - n) f ∙ rw rest (omega arith)
+
+pub changes-all : (p : Plan) → Small p → (i : ℕ) → count (64 * netWords) (differs (basesFor p) i) ≡ changes (basesFor p) i
+unfolding changes differs basesFor onesBelow xor
+changes-all p s i = count-cut (p .nets) (64 * netWords) _ (s .nets) (λ m h. rw (le-ltb m (p .nets) h) refl)
+
+pub changes-low : (p : Plan) → Small p → (i : ℕ) → changes (basesFor p) i ≤ 64 * netWords
+unfolding changes basesFor
+changes-low p s i = le-trans (count-le (p .nets) (differs (basesFor p) i)) (s .nets)
+
+-- how many are inserted after base vector i, by whether there is a next
+pub extra-some : (p : Plan) (i h : ℕ) → i + 1 < size p → h ≡ changes (basesFor p) i → ceil h (p .limit) - 1 ≡ insertedAfter (basesFor p) i
+unfolding insertedAfter basesFor
+extra-some p i h l e = rw (e, lt-ltb (i + 1) (size p) l) refl
+
+pub extra-none : (p : Plan) (i : ℕ) → size p ≤ i + 1 → 0 ≡ insertedAfter (basesFor p) i
+unfolding insertedAfter basesFor
+extra-none p i l = rw (le-ltb (i + 1) (size p) l) refl
+
+ceil-low : (h s : ℕ) → 1 ≤ s → ceil h s - 1 ≤ h
+ceil-low h s p = ⊎-elim none some (eq-zero-or-pos h)
+  where
+    none : h ≡ 0 → ceil h s - 1 ≤ h
+    none e = rw (e, ceil-zero s p) (omega arith)
+
+    some : 0 < h → ceil h s - 1 ≤ h
+    some q = let a = ceil-tight h s p q in let b = mul-le-mul-left (ceil h s - 1) p in omega (arith, mul-one (ceil h s - 1))
+
+pub extra-low : (p : Plan) → Small p → (i : ℕ) → insertedAfter (basesFor p) i ≤ 64 * netWords
+extra-low p s i = ⊎-elim some none (order (i + 1) (size p))
+  where
+    some : i + 1 < size p → insertedAfter (basesFor p) i ≤ 64 * netWords
+    some l =
+        rw (← extra-some p i (changes (basesFor p) i) l refl) (le-trans (ceil-low (changes (basesFor p) i) (p .limit) (s .limited)) (changes-low p s i))
+
+    none : size p ≤ i + 1 → insertedAfter (basesFor p) i ≤ 64 * netWords
+    none l = rw (← extra-none p i l) (omega arith)
+
+-- where part i starts
+abbrev pub start : Plan → ℕ → ℕ
+start p i = length (weave Base (between (basesFor p)) i)
+
+pub start-zero : (p : Plan) → start p 0 ≡ 0
+unfolding weave
+start-zero p = refl
+
+part-length : (p : Plan) (i : ℕ) → length (between (basesFor p) i) ≡ insertedAfter (basesFor p) i
+unfolding between
+part-length p i = length-table (insertedAfter (basesFor p) i) (λ t. Inserted i (t + 1))
+
+pub start-next : (p : Plan) (i : ℕ) → start p (i + 1) ≡ start p i + (1 + insertedAfter (basesFor p) i)
+start-next p i = rw (add-one i, weave-length Base (between (basesFor p)) i, part-length p i) (omega arith)
+
+-- the parts of all base vectors are all steps
+pub start-end : (p : Plan) → start p (size p) ≡ length (stepsOf (basesFor p))
+unfolding stepsOf basesFor
+start-end p = refl
+
+-- past part i of a step there is a next part
+pub step-on : (p : Plan) (t i left : ℕ) → t < length (stepsOf (basesFor p)) → i < size p → start p i + left ≡ t → insertedAfter (basesFor p) i < left → i + 1 < size p
+step-on p t i left h l e m = ⊎-elim ended (λ (q : i + 1 < size p). q) (eq-or-lt-of-le (let q : i + 1 ≤ size p = omega arith in q))
+  where
+    ended : i + 1 ≡ size p → i + 1 < size p
+    ended q = absurd (let a = start-next p i in let b = start-end p in let f = ap (start p) q in omega arith)
+
+-- in part i stands the base vector, then those inserted after it
+step-in : (p : Plan) (i left : ℕ) → i < size p → left ≤ insertedAfter (basesFor p) i → getD (stepsOf (basesFor p)) (start p i + left) (Base 0) ≡ getD (Base i ∷ between (basesFor p) i) left (Base 0)
+unfolding stepsOf basesFor
+step-in p i left l m = weave-at Base (between (basesFor p)) (size p) (Base 0) l left (rw (part-length p i) m)
+
+pub step-base : (p : Plan) (t i left : ℕ) → i < size p → start p i + left ≡ t → left ≡ 0 → Base i ≡ getD (stepsOf (basesFor p)) t (Base 0)
+step-base p t i left l e z = sym (rw (← e, z) (step-in p i 0 l (omega arith)))
+
+pub step-inserted : (p : Plan) (t i left : ℕ) → i < size p → start p i + left ≡ t → (left ≡ 0 → ⊥) → left ≤ insertedAfter (basesFor p) i → Inserted i left ≡ getD (stepsOf (basesFor p)) t (Base 0)
+unfolding between
+step-inserted p t i zero l e z m = absurd (z refl)
+step-inserted p t i (suc k) l e z m =
+    sym (rw (← e) (step-in p i (suc k) l m ∙ table-at (insertedAfter (basesFor p) i) (λ t. Inserted i (t + 1)) (Base 0) {i = k} m ∙ ap (Inserted i) (add-one k)))

@@ -1,0 +1,28 @@
+-- The base vectors of a plan's four numbers, and how large these may be. Assumes nothing.
+use Prim.Native.Nat.{ℕ, suc, _*_, _/_, _%_, _≤_, _<_}
+use Rattle.rules.specs.Vectors.{Bases}
+use Rattle.rules.specs.declared.Step.{Step}
+use Rattle.rules.specs.declared.Step.the-variants.{Base, Inserted}
+use Rattle.words.specs.Sets.{netWords}
+use Rattle.plan.specs.declared.steps.Plan.{Plan}
+use Rattle.plan.specs.Patterns.{onesBelow}
+
+-- the base vectors of a board whose N, p, G and SSOL are the plan's
+unfoldable pub basesFor : Plan → Bases
+basesFor p =
+    record { nets = p .nets; size = p .groups * p .wide; group = λ i. suc (i / p .wide); value = λ i. onesBelow (p .nets) (p .wide) (i % p .wide); limit = p .limit }
+
+-- loose bounds of the four numbers, within which no count overflows
+pub record Small (p : Plan) : Type 0 where
+  pub nets : p .nets ≤ 64 * netWords
+  pub coded : 1 ≤ p .wide
+  pub narrow : p .wide ≤ 20
+  pub turns : 1 ≤ p .groups
+  pub few : p .groups ≤ 65535
+  pub limited : 1 ≤ p .limit
+  pub low : p .limit ≤ 65535
+
+-- the step stands in the plan's base vectors, and its number among the inserted ones is no larger than the number of nets
+abbrev pub Within : Plan → Step → Type 0
+Within p (Base i) = i < p .groups * p .wide
+Within p (Inserted i t) = (i < p .groups * p .wide) × (t ≤ 64 * netWords)
