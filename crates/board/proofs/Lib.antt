@@ -10,3 +10,4 @@ pub mod Sets
 pub mod Brought
 pub mod ControlChecks
 pub mod Order
+pub mod Blanks

@@ -1,23 +1,22 @@
 -- The nets' checks over the tables that a whole file fills.
 use Prim.Native.Nat.{ℕ}
 use mathlib.Core.Path.{_≡_}
-use mathlib.Core.Bool.{Bool}
+use mathlib.Core.Bool.{Bool, _||_}
 use mathlib.Core.List.{List}
-use lib.Dec.{eqb, ltb}
+use lib.Dec.{ltb}
 use lib.ListN.{getD}
 use Rattle.rules.specs.File.{cellsOf, netsOf}
-use Rattle.rules.specs.Refusals.{mostDrivers}
 use Rattle.board.specs.declared.chains.By.the-variants.{NetOf}
 use Rattle.board.specs.Chains.{Chains}
 use Rattle.board.specs.Driving.{Counted}
 
--- a head that is none
-unfoldable pub noneAt : List ℕ → ℕ → Bool
-noneAt heads n = eqb (getD heads n 0) 0
+-- below low or above high
+unfoldable pub outside : ℕ → ℕ → ℕ → Bool
+outside low high x = ltb x low || ltb high x
 
--- a count over the limit
-unfoldable pub overAt : List ℕ → ℕ → Bool
-overAt counts n = ltb mostDrivers (getD counts n 0)
+-- the net's entry in a table of heads or counts lies outside
+unfoldable pub outsideAt : ℕ → ℕ → List ℕ → ℕ → Bool
+outsideAt low high table n = outside low high (getD table n 0)
 
 -- the chains by net and the counts of a whole file
 pub record Checkable (file heads links counts : List ℕ) (nets : ℕ) : Type 0 where

@@ -10,7 +10,7 @@ ghost use Rattle.rules.specs.Refusals.{judge, each, clashing, netChecks};
 ghost use Rattle.board.specs.declared.chains.By.the-variants.{NetOf};
 ghost use Rattle.board.specs.Chains.{keyed, Chains};
 ghost use Rattle.board.specs.Driving.{conflictAt, Counted};
-ghost use Rattle.board.specs.Nets.{noneAt, overAt, Checkable};
+ghost use Rattle.board.specs.Nets.{outside, outsideAt, Checkable};
 use crate::cells::cell_at;
 use crate::chains::held;
 use crate::drivers::conflict;
@@ -19,16 +19,29 @@ use rules::Verdict;
 // "at most 16 controlled drivers on a net"
 const MOST_DRIVERS: u16 = 16;
 
-// Refusal 7: a net whose chain of outputs is empty has none.
-fn undriven_verdict(heads: &[u16], nets: usize) -> Verdict
-    requires { ⌜ nets ≤ length (now heads) ⌝ }
+// The largest entry that a table can hold.
+const HIGHEST: u16 = 65535;
+
+// An entry lies outside low to high.
+fn outside(entry: u16, low: u16, high: u16) -> bool
+    ensures { λ r. ⌜ r ≡ outside low high entry ⌝ }
+{
+    if entry < low {
+        return true;
+    }
+    high < entry
+}
+
+// Refusals 7 and 9: a net whose entry lies outside low to high.
+fn outside_verdict(number: u8, table: &[u16], low: u16, high: u16, nets: usize) -> Verdict
+    requires { ⌜ nets ≤ length (now table) ⌝ }
     requires { ⌜ nets ≤ 65536 ⌝ }
-    ensures { λ r. ⌜ r ≡ judge (each 7 nets (noneAt (now (heads .entry))) ∷ []) ⌝ }
+    ensures { λ r. ⌜ r ≡ judge (each number nets (outsideAt low high (now (table .entry))) ∷ []) ⌝ }
 {
     let mut n = 0;
     while n < nets {
-        if heads[n] == 0 {
-            return blocks::refuse(7, n);
+        if outside(table[n], low, high) {
+            return blocks::refuse(number, n);
         }
         n += 1;
     }
@@ -86,22 +99,6 @@ fn clash_verdict(file: &[u8], heads: &[u16], links: &[u16], nets: usize) -> Verd
     Verdict::Accepted
 }
 
-// Refusal 9: a net with over 16 controlled drivers.
-fn crowded_verdict(counts: &[u16], nets: usize) -> Verdict
-    requires { ⌜ nets ≤ length (now counts) ⌝ }
-    requires { ⌜ nets ≤ 65536 ⌝ }
-    ensures { λ r. ⌜ r ≡ judge (each 9 nets (overAt (now (counts .entry))) ∷ []) ⌝ }
-{
-    let mut n = 0;
-    while n < nets {
-        if MOST_DRIVERS < counts[n] {
-            return blocks::refuse(9, n);
-        }
-        n += 1;
-    }
-    Verdict::Accepted
-}
-
 // Refusals 7 to 9, over the chains of outputs by net and the counts of drivers.
 pub fn nets_verdict(
     file: &[u8],
@@ -113,7 +110,7 @@ pub fn nets_verdict(
     requires { ⌜ Checkable (now file) (now heads) (now links) (now counts) nets ⌝ }
     ensures { λ r. ⌜ r ≡ judge (netChecks (boardOf (now (file .entry)))) ⌝ }
 {
-    let undriven = undriven_verdict(heads, nets);
+    let undriven = outside_verdict(7, heads, 1, HIGHEST, nets);
     let Verdict::Accepted = undriven else {
         return undriven;
     };
@@ -121,5 +118,5 @@ pub fn nets_verdict(
     let Verdict::Accepted = clash else {
         return clash;
     };
-    crowded_verdict(counts, nets)
+    outside_verdict(9, counts, 0, MOST_DRIVERS, nets)
 }

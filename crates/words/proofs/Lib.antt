@@ -2,3 +2,4 @@
 pub mod Bounds
 pub mod Words
 pub mod Members
+pub mod Choosing

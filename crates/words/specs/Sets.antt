@@ -3,7 +3,7 @@ use Prim.Native.Nat.{ℕ, _/_, _%_, _≤_}
 use mathlib.Core.Path.{_≡_}
 use mathlib.Core.Bool.{Bool, true, false, not, xor, _&&_, _||_}
 use mathlib.Core.List.{List}
-use lib.Dec.{eqb}
+use lib.Dec.{ltb, eqb}
 use lib.ListN.{length, getD}
 use Rattle.rules.specs.Basics.{any, all, bit}
 use Rattle.words.specs.declared.Lie.{Lie}
@@ -27,6 +27,14 @@ nothing m = false
 -- the set with n besides
 abbrev pub plus : (ℕ → Bool) → ℕ → ℕ → Bool
 plus f n m = eqb m n || f m
+
+-- the set with n besides, where n passes
+unfoldable pub plusIf : (ℕ → Bool) → ℕ → (ℕ → Bool) → ℕ → Bool
+plusIf p n f m = p n && eqb m n || f m
+
+-- the numbers below n that pass
+unfoldable pub upTo : ℕ → (ℕ → Bool) → ℕ → Bool
+upTo n p m = ltb m n && p m
 
 -- the two sets together
 abbrev pub either : (ℕ → Bool) → (ℕ → Bool) → ℕ → Bool

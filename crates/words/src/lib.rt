@@ -6,7 +6,7 @@ ghost use mathlib.Core.Bool.{xor};
 ghost use Prim.Native.Nat.{_*_, _-_, _<_, _≤_};
 ghost use Rattle.rules.specs.Basics.{count, seek, least};
 ghost use Rattle.rules.specs.Vectors.{among};
-ghost use Rattle.words.specs.Sets.{netWords, cellWords, member, nothing, plus, either, unlike, meetsIn, lieOf};
+ghost use Rattle.words.specs.Sets.{netWords, cellWords, member, nothing, plus, either, unlike, meetsIn, insideIn, lieOf};
 use rules::Net;
 use rules::Position;
 
@@ -90,6 +90,15 @@ impl NetSet {
         core::meets(&a, &b)
     }
 
+    // Each net of the other set is in this one.
+    pub fn holds(self, other: NetSet) -> bool
+        ensures { λ r. ⌜ r ≡ insideIn (64 * netWords) (member (other .words)) (member (self .words)) ⌝ }
+    {
+        let a = self.words;
+        let b = other.words;
+        core::inside(&b, &a)
+    }
+
     // How the set lies to the other.
     pub fn compare(self, other: NetSet) -> Lie
         ensures { λ r. ⌜ r ≡ lieOf (64 * netWords) (member (self .words)) (member (other .words)) ⌝ }
@@ -158,6 +167,16 @@ impl CellSet {
     {
         let words = self.words;
         core::has(&words, p.0 as usize)
+    }
+
+    // The cells of both sets.
+    pub fn union(self, other: CellSet) -> CellSet
+        ensures { λ r. ⌜ member (r .words) ≡ either (member (self .words)) (member (other .words)) ⌝ }
+    {
+        let mut words = self.words;
+        let cells = other.words;
+        core::join(&mut words, &cells);
+        CellSet { words }
     }
 
     // The lowest cell from `from` on, or 64 * CELL_WORDS where there is none.

@@ -1,21 +1,9 @@
 -- The function's own tables are blank.
-use Prim.Native.Nat.{ℕ, zero, suc, _<_}
-use mathlib.Core.Path.{_≡_, refl}
 use borrow.Author.Needs.{needs}
-use native.Mathlib.Omega.{arith}
-use lib.ListN.{length, getD, replicate, length-replicate}
 use Rattle.rules.specs.Refusals.{mostCells, mostNets}
-use Rattle.board.specs.Verdict.{Zero}
+use Rattle.board.proofs.Blanks.{blank}
 use Rattle.board.proofs.verdict.verdict.Statement.{statement}
 use Rattle.board.proofs.verdict.verdict.Tie as tie
-
-zero-at : (n i : ℕ) → _≡_ {A = ℕ} (getD (replicate n 0) i 0) 0
-zero-at zero i = refl
-zero-at (suc n) zero = refl
-zero-at (suc n) (suc i) = zero-at n i
-
-blank : (n : ℕ) → Zero n (replicate n 0)
-blank n = record { long = (let l = length-replicate {A = ℕ} n 0 in omega arith); zero-at = zero-at n }
 
 examine-requires : tie.Need-examine-requires
 examine-requires c κs =
