@@ -1,4 +1,4 @@
--- A pattern grows net by net; the width of the codes is the number of digits of the highest one.
+-- The width of the codes is the number of digits of the highest one.
 use Prim.Native.Nat.{ℕ, suc, _+_, _-_, _/_, _^_, _≤_, _<_}
 use mathlib.Core.Path.{_≡_, refl, sym, _∙_, ap, fun-ext}
 use mathlib.Core.Logic.{_⊎_, inl, inr, ⊎-elim}
@@ -9,11 +9,9 @@ use borrow.Author.Tests.{lt-ltb, le-ltb, eq-eqb, ne-eqb}
 use lib.Count.{leadingZeros, leading-top}
 use lib.Dec.{ltb, eqb}
 use lib.Pow.{pow-mono}
-use Rattle.rules.specs.Vectors.{codeWidth, codeBit}
+use Rattle.rules.specs.Vectors.{codeWidth}
 use Rattle.rules.proofs.Tests.{order}
 use Rattle.rules.proofs.Codes.{width-least}
-use Rattle.words.specs.Sets.{nothing, plus}
-use Rattle.plan.specs.Patterns.{onesBelow, withCode}
 
 -- the digits of N + 1 are as many as the width of N codes
 pub digits-width : (k nets : ℕ) → nets + 1 < 2 ^ k → k - leadingZeros k (nets + 1) ≡ codeWidth nets
@@ -40,32 +38,3 @@ width-some nets = ⊎-elim none (λ (q : 0 < codeWidth nets). q) (eq-zero-or-pos
 pub width-low : (k nets : ℕ) → nets + 2 ≤ 2 ^ k → codeWidth nets ≤ k
 width-low k nets h =
     ⊎-elim (λ (l : k < codeWidth nets). absurd (omega (arith, width-least nets .1 k l))) (λ (l : codeWidth nets ≤ k). l) (order k (codeWidth nets))
-
--- what net n brings, by its bit
-pub coded : (p j n : ℕ) (f : ℕ → Bool) → codeBit p j n ≡ true → plus f n ≡ withCode p j n f
-unfolding withCode
-coded p j n f e = fun-ext (λ m. rw e refl)
-
-pub uncoded : (p j n : ℕ) (f : ℕ → Bool) → codeBit p j n ≡ false → f ≡ withCode p j n f
-unfolding withCode
-uncoded p j n f e = fun-ext (λ m. rw e refl)
-
--- no net at first, then one more at a time
-pub ones-none : (p j : ℕ) → nothing ≡ onesBelow 0 p j
-unfolding onesBelow
-ones-none p j = fun-ext (λ m. rw (le-ltb m 0 (omega arith)) refl)
-
-pub ones-grown : (n p j : ℕ) → withCode p j n (onesBelow n p j) ≡ onesBelow (n + 1) p j
-unfolding withCode onesBelow
-ones-grown n p j = fun-ext (λ m. ⊎-elim (below m) (λ l. ⊎-elim (same m) (above m) (eq-or-lt-of-le l)) (order m n))
-  where
-    below : (m : ℕ) → m < n → (codeBit p j n && eqb m n || ltb m n && codeBit p j m) ≡ (ltb m (n + 1) && codeBit p j m)
-    below m l = rw (ne-eqb m n (λ e. omega arith), lt-ltb m n l, lt-ltb m (n + 1) (omega arith), and-false (codeBit p j n)) refl
-
-    same : (m : ℕ) → n ≡ m → (codeBit p j n && eqb m n || ltb m n && codeBit p j m) ≡ (ltb m (n + 1) && codeBit p j m)
-    same m e =
-        rw (← e, eq-eqb n n refl, le-ltb n n (omega arith), lt-ltb n (n + 1) (omega arith), and-true (codeBit p j n), or-false (codeBit p j n)) refl
-
-    above : (m : ℕ) → n < m → (codeBit p j n && eqb m n || ltb m n && codeBit p j m) ≡ (ltb m (n + 1) && codeBit p j m)
-    above m l =
-        rw (ne-eqb m n (λ e. omega arith), le-ltb m n (omega arith), le-ltb m (n + 1) (omega arith), and-false (codeBit p j n)) refl

@@ -2,3 +2,4 @@
 pub mod Coding
 pub mod Stepping
 pub mod Mixing
+pub mod Planned

@@ -1,21 +1,22 @@
 -- What a step's case tells of it, and a set of differing nets that change sides.
-use Prim.Native.Nat.{ℕ, suc, _+_, _*_, _/_, _≤_, _<_}
-use mathlib.Core.Path.{_≡_, refl, sym, _∙_, ap, subst, fun-ext}
-use mathlib.Core.Bool.{Bool, true, false, cond, xor, _&&_}
-use native.Mathlib.Nat.{le-trans, div-le-self, mul-le-mul-left, mul-le-mul-right}
+use Prim.Native.Nat.{ℕ, zero, suc, _+_, _*_, _/_, _≤_, _<_}
+use mathlib.Core.Path.{_≡_, refl, sym, _∙_, ap, ap₂, subst, fun-ext}
+use mathlib.Core.Bool.{Bool, true, false, cond, xor, _&&_, and-false}
+use native.Mathlib.Nat.{zero-mul, le-trans, div-le-self, mul-le-mul-left, mul-le-mul-right}
 use native.Mathlib.Omega.{arith}
+use borrow.Author.Tests.{le-ltb}
 use lib.Dec.{ltb}
 use lib.ListN.{length, getD}
 use Rattle.rules.specs.Basics.{count, table}
-use Rattle.rules.specs.Vectors.{Vector, Bases, among, insertedAfter, between, stepsOf, vectorOf}
+use Rattle.rules.specs.Vectors.{Vector, Bases, among, differs, insertedAfter, between, stepsOf, vectorOf}
 use Rattle.rules.specs.declared.Step.{Step}
 use Rattle.rules.specs.declared.Step.the-variants.{Base, Inserted}
 use Rattle.rules.proofs.Digits.{length-table, table-at}
 use Rattle.rules.proofs.Weaving.{weave-each}
 use Rattle.words.specs.Sets.{unlike}
 use Rattle.plan.specs.declared.steps.Plan.{Plan}
-use Rattle.plan.specs.Plans.{basesFor, Small, Within}
-use Rattle.plan.proofs.Stepping.{size-low, extra-low}
+use Rattle.plan.specs.Plans.{basesFor, mix, Small, Within}
+use Rattle.plan.proofs.Stepping.{size, size-low, extra-low, start, step-base, step-inserted}
 
 -- a net that differs and changes sides has its new value, another keeps its old
 mixed : (a b l : Bool) → xor a (xor a b && l) ≡ cond (xor a b && l) b a
@@ -27,9 +28,18 @@ mixed false true true = refl
 mixed false true false = refl
 mixed false false l = refl
 
-pub mixed-nets : (k : ℕ) (old new : ℕ → Bool) → unlike old (among k (unlike old new)) ≡ (λ (m : ℕ). cond (among k (unlike old new) m) (new m) (old m))
-unfolding among
+pub mixed-nets : (k : ℕ) (old new : ℕ → Bool) → unlike old (among k (unlike old new)) ≡ mix k old new
+unfolding among mix
 mixed-nets k old new = fun-ext (λ m. mixed (old m) (new m) (ltb (count m (unlike old new)) k))
+
+-- the t-th inserted vector's values, and none changed at first
+pub mix-inserted : (p : Plan) (i t : ℕ) (old new f : ℕ → Bool) → old ≡ basesFor p .value i → new ≡ basesFor p .value (i + 1) → f ≡ mix (t * p .limit) old new → f ≡ vectorOf (basesFor p) (Inserted i t) .value
+unfolding vectorOf differs basesFor mix
+mix-inserted p i t old new f e h m = m ∙ ap₂ (mix (t * p .limit)) e h
+
+pub mix-none : (old new : ℕ → Bool) → mix 0 old new ≡ old
+unfolding mix among
+mix-none old new = fun-ext (λ m. rw (le-ltb (count m (unlike old new)) 0 (omega arith), and-false (unlike old new m)))
 
 -- the nets that have changed sides are a small number
 pub mixed-low : (p : Plan) (i t : ℕ) → Small p → Within p (Inserted i t) → t * p .limit ≤ 256 * 65535
@@ -57,3 +67,16 @@ steps-within p s =
   where
     inside : (b : ℕ) → b < p .groups * p .wide → (k : ℕ) → k < insertedAfter (basesFor p) b → Within p (getD (table (insertedAfter (basesFor p) b) (λ t. Inserted b (t + 1))) k (Base 0))
     inside b l k h = rw (table-at (insertedAfter (basesFor p) b) (λ t. Inserted b (t + 1)) (Base 0) h) (l, let e = extra-low p s b in omega arith)
+
+-- the values of the k-th vector of part i, the base vector being the 0th
+pub value-at : (p : Plan) (t i k : ℕ) (old new f : ℕ → Bool) → i < size p → start p i + k ≡ t → k ≤ insertedAfter (basesFor p) i → old ≡ basesFor p .value i → new ≡ basesFor p .value (i + 1) → f ≡ mix (k * p .limit) old new → f ≡ vectorOf (basesFor p) (getD (stepsOf (basesFor p)) t (Base 0)) .value
+unfolding vectorOf
+value-at p t i zero old new f l e h o n m =
+    m
+    ∙ ap (λ (x : ℕ). mix x old new) (zero-mul (p .limit))
+    ∙ mix-none old new
+    ∙ o
+    ∙ ap (λ (s : Step). vectorOf (basesFor p) s .value) (step-base p t i 0 l e refl)
+value-at p t i (suc k) old new f l e h o n m =
+    mix-inserted p i (suc k) old new f o n m
+    ∙ ap (λ (s : Step). vectorOf (basesFor p) s .value) (step-inserted p t i (suc k) l e (λ z. omega arith) h)

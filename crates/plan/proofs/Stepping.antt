@@ -15,10 +15,9 @@ use Rattle.rules.specs.declared.Step.the-variants.{Base, Inserted}
 use Rattle.rules.proofs.Tests.{count-le, count-none, order}
 use Rattle.rules.proofs.Digits.{length-table, table-at, ceil-tight, ceil-zero}
 use Rattle.rules.proofs.Weaving.{weave-length, weave-grows, weave-at}
-use Rattle.words.specs.Sets.{netWords}
+use Rattle.words.specs.Sets.{netWords, upTo}
 use Rattle.words.proofs.Bounds.{count-add}
 use Rattle.plan.specs.declared.steps.Plan.{Plan}
-use Rattle.plan.specs.Patterns.{onesBelow}
 use Rattle.plan.specs.Plans.{basesFor, Small}
 
 -- the number of base vectors
@@ -39,7 +38,7 @@ count-cut n m f h none =
     ap (λ (k : ℕ). count k f) e ∙ count-add n (m - n) f ∙ rw rest (omega arith)
 
 pub changes-all : (p : Plan) → Small p → (i : ℕ) → count (64 * netWords) (differs (basesFor p) i) ≡ changes (basesFor p) i
-unfolding changes differs basesFor onesBelow xor
+unfolding changes differs basesFor upTo xor
 changes-all p s i = count-cut (p .nets) (64 * netWords) _ (s .nets) (λ m h. rw (le-ltb m (p .nets) h) refl)
 
 pub changes-low : (p : Plan) → Small p → (i : ℕ) → changes (basesFor p) i ≤ 64 * netWords

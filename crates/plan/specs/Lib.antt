@@ -1,3 +1,3 @@
--- A pattern of the nets' codes as a set of nets, and the base vectors of a plan.
-pub mod Patterns
+-- The base vectors of a plan, and a board's plan.
 pub mod Plans
+pub mod Planning

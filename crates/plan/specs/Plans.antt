@@ -1,16 +1,16 @@
 -- The base vectors of a plan's four numbers, and how large these may be. Assumes nothing.
 use Prim.Native.Nat.{ℕ, suc, _*_, _/_, _%_, _≤_, _<_}
-use Rattle.rules.specs.Vectors.{Bases}
+use mathlib.Core.Bool.{Bool, cond}
+use Rattle.rules.specs.Vectors.{Bases, codeBit, among}
 use Rattle.rules.specs.declared.Step.{Step}
 use Rattle.rules.specs.declared.Step.the-variants.{Base, Inserted}
-use Rattle.words.specs.Sets.{netWords}
+use Rattle.words.specs.Sets.{netWords, unlike, upTo}
 use Rattle.plan.specs.declared.steps.Plan.{Plan}
-use Rattle.plan.specs.Patterns.{onesBelow}
 
 -- the base vectors of a board whose N, p, G and SSOL are the plan's
 unfoldable pub basesFor : Plan → Bases
 basesFor p =
-    record { nets = p .nets; size = p .groups * p .wide; group = λ i. suc (i / p .wide); value = λ i. onesBelow (p .nets) (p .wide) (i % p .wide); limit = p .limit }
+    record { nets = p .nets; size = p .groups * p .wide; group = λ i. suc (i / p .wide); value = λ i. upTo (p .nets) (codeBit (p .wide) (i % p .wide)); limit = p .limit }
 
 -- loose bounds of the four numbers, within which no count overflows
 pub record Small (p : Plan) : Type 0 where
@@ -26,3 +26,7 @@ pub record Small (p : Plan) : Type 0 where
 abbrev pub Within : Plan → Step → Type 0
 Within p (Base i) = i < p .groups * p .wide
 Within p (Inserted i t) = (i < p .groups * p .wide) × (t ≤ 64 * netWords)
+
+-- the new value at the k lowest of the differing nets, the old elsewhere
+unfoldable pub mix : ℕ → (ℕ → Bool) → (ℕ → Bool) → ℕ → Bool
+mix k old new m = cond (among k (unlike old new) m) (new m) (old m)

@@ -3,8 +3,7 @@ ghost use mathlib.Core.Path.{_≡_};
 ghost use Prim.Native.Nat.{_<_, _≤_, _*_, _-_};
 ghost use Rattle.rules.specs.Basics.{ceil};
 ghost use Rattle.rules.specs.Vectors.{codeWidth, codeBit};
-ghost use Rattle.words.specs.Sets.{netWords, member};
-ghost use Rattle.plan.specs.Patterns.{onesBelow, withCode};
+ghost use Rattle.words.specs.Sets.{netWords, member, plusIf, upTo};
 use rules::Net;
 use words::NetSet;
 
@@ -28,7 +27,7 @@ fn code_bit(wide: usize, j: usize, m: usize) -> bool
 // The set with net m besides, if its bit is 1.
 fn add_net(wide: usize, j: usize, m: usize, set: NetSet) -> NetSet
     requires { ⌜ (j < wide) × (wide ≤ 64) × (m < 64 * netWords) ⌝ }
-    ensures { λ r. ⌜ member (r .words) ≡ withCode wide j m (member (set .words)) ⌝ }
+    ensures { λ r. ⌜ member (r .words) ≡ plusIf (codeBit wide j) m (member (set .words)) ⌝ }
 {
     if code_bit(wide, j, m) {
         return set.with(Net(m as u16));
@@ -39,7 +38,7 @@ fn add_net(wide: usize, j: usize, m: usize, set: NetSet) -> NetSet
 // Pattern j + 1 of `wide`: the nets below `nets` whose bit is 1.
 pub fn pattern(nets: usize, wide: usize, j: usize) -> NetSet
     requires { ⌜ (j < wide) × (wide ≤ 64) × (nets ≤ 64 * netWords) ⌝ }
-    ensures { λ r. ⌜ member (r .words) ≡ onesBelow nets wide j ⌝ }
+    ensures { λ r. ⌜ member (r .words) ≡ upTo nets (codeBit wide j) ⌝ }
 {
     let mut set = NetSet::empty();
     let mut m = 0;

@@ -4,13 +4,21 @@ ghost use Prim.Native.Nat.{_<_, _≤_, _*_};
 ghost use Rattle.rules.specs.Vectors.{vectorOf};
 ghost use Rattle.rules.specs.declared.Step.the-variants.{Inserted};
 ghost use Rattle.words.specs.Sets.{member};
-ghost use Rattle.plan.specs.Plans.{basesFor, Small, Within};
+ghost use Rattle.plan.specs.Plans.{basesFor, mix, Small, Within};
 use crate::steps::Plan;
 use crate::steps::base_values;
 use rules::Step;
 use words::NetSet;
 
-// The t-th inserted after base vector i: the t x SSOL lowest of the differing nets have changed sides.
+// The old values with the k lowest of the differing nets changed to the new.
+pub fn mixed(old: NetSet, new: NetSet, k: usize) -> NetSet
+    ensures { λ r. ⌜ member (r .words) ≡ mix k (member (old .words)) (member (new .words)) ⌝ }
+{
+    let changed = old.flip(new).lowest_members(k);
+    old.flip(changed)
+}
+
+// The t-th inserted after base vector i: the t x SSOL lowest of the differing nets have changed.
 fn inserted_values(plan: Plan, i: usize, t: usize) -> NetSet
     requires { ⌜ Small plan ⌝ }
     requires { ⌜ Within plan (Inserted i t) ⌝ }
@@ -18,8 +26,7 @@ fn inserted_values(plan: Plan, i: usize, t: usize) -> NetSet
 {
     let old = base_values(plan, i);
     let new = base_values(plan, i + 1);
-    let changed = old.flip(new).lowest_members(t * plan.limit);
-    old.flip(changed)
+    mixed(old, new, t * plan.limit)
 }
 
 // The net values of a step's vector.

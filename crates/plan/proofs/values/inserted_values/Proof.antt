@@ -1,12 +1,11 @@
--- A differing net that has changed sides has its new value.
-use mathlib.Core.Path.{_∙_, ap, ap₂}
+-- The two base vectors' values, mixed.
+use mathlib.Core.Path.{_∙_, ap₂}
 use native.Mathlib.Omega.{arith}
 use borrow.Author.Needs.{needs}
-use Rattle.rules.specs.Vectors.{differs, among, vectorOf}
-use Rattle.words.specs.Sets.{unlike}
-use Rattle.plan.specs.Plans.{basesFor}
+use Rattle.rules.specs.Vectors.{differs, vectorOf}
+use Rattle.plan.specs.Plans.{basesFor, mix}
 use Rattle.plan.proofs.Stepping.{size-low}
-use Rattle.plan.proofs.Mixing.{mixed-nets, mixed-low}
+use Rattle.plan.proofs.Mixing.{mixed-low, mix-inserted}
 use Rattle.plan.proofs.values.inserted_values.Statement.{statement}
 use Rattle.plan.proofs.values.inserted_values.Tie as tie
 
@@ -15,21 +14,15 @@ add-base-values c =
     let p = c .before .pre in
     omega (arith, p .1 .0, size-low _ (p .0))
 
-mul-lowest-members : tie.Need-mul-lowest-members
-mul-lowest-members c =
-    let p = c .before .before .before .before .pre in
+mul-mixed : tie.Need-mul-mixed
+mul-mixed c =
+    let p = c .before .before .before .pre in
     omega (arith, mixed-low _ _ _ (p .0) (p .1))
 
 returns : tie.Need-returns
-unfolding vectorOf differs basesFor
-returns c =
-    let old = c .before .before .before .before .before .base-values .ensures in
-    let new = c .before .before .before .before .base-values2 .ensures in
-    c .flip2 .ensures
-    ∙ ap₂ unlike old (c .before .lowest-members .ensures ∙ ap (among _) (c .before .before .before .flip .ensures ∙ ap₂ unlike old new))
-    ∙ mixed-nets _ _ _
+returns c = mix-inserted _ _ _ _ _ _ (c .before .before .before .base-values .ensures) (c .before .before .base-values2 .ensures) (c .mixed .ensures)
 
 pub inserted-values-spec : {M : Type 1} → statement M
 inserted-values-spec =
     tie.close
-    (tie.spec (λ c κs. c .pre .0) add-base-values (λ c κs. c .before .pre .0) (λ c κs. search needs) mul-lowest-members (λ c κs. search needs) (λ c κs. search needs) returns)
+    (tie.spec (λ c κs. c .pre .0) add-base-values (λ c κs. c .before .pre .0) mul-mixed (λ c κs. search needs) returns)

@@ -1,0 +1,2 @@
+-- What the readings of the input cells say of the nets.
+pub mod Judging

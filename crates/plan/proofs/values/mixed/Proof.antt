@@ -1,0 +1,15 @@
+-- A differing net that has changed sides has its new value.
+use mathlib.Core.Path.{_∙_, ap, ap₂}
+use borrow.Author.Needs.{needs}
+use Rattle.rules.specs.Vectors.{among}
+use Rattle.words.specs.Sets.{unlike}
+use Rattle.plan.specs.Plans.{mix}
+use Rattle.plan.proofs.Mixing.{mixed-nets}
+use Rattle.plan.proofs.values.mixed.Statement.{statement}
+use Rattle.plan.proofs.values.mixed.Tie as tie
+
+returns : tie.Need-returns
+returns c = c .flip2 .ensures ∙ ap (unlike _) (c .before .lowest-members .ensures ∙ ap (among _) (c .before .before .flip .ensures)) ∙ mixed-nets _ _ _
+
+pub mixed-spec : {M : Type 1} → statement M
+mixed-spec = tie.close (tie.spec (λ c κs. search needs) (λ c κs. search needs) (λ c κs. search needs) returns)

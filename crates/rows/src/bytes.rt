@@ -1,0 +1,39 @@
+// A set of cells as the bytes of a row, and a row in a buffer from a place on.
+ghost use mathlib.Core.Path.{_≡_};
+ghost use Prim.Native.Nat.{_+_, _*_, _<_, _≤_};
+ghost use Rattle.rules.specs.Basics.{word, rowBytes, rowOf};
+ghost use Rattle.words.specs.Sets.{cellWords, member};
+ghost use Rattle.rows.specs.Rows.{placed, Room, Cells};
+use words::CellSet;
+
+// R = ceil(C / 8), the bytes of a row.
+pub fn row_bytes(cells: usize) -> usize
+    requires { ⌜ cells ≤ 65535 ⌝ }
+    ensures { λ r. ⌜ r ≡ rowBytes cells ⌝ }
+{
+    (cells + 7) / 8
+}
+
+// Byte j of a row: cells 8 j to 8 j + 7, the lowest in the least bit.
+fn row_byte(set: CellSet, j: usize) -> u8
+    requires { ⌜ j < 8 * cellWords ⌝ }
+    ensures { λ r. ⌜ r ≡ word 8 (λ i. member (set .words) (8 * j + i)) ⌝ }
+{
+    let words = set.words;
+    let word = words[j / 8];
+    ((word >> (8 * (j % 8))) & 255) as u8
+}
+
+// The row of a set of cells, in the buffer from `at` on.
+pub fn write_row(out: &mut [u8], at: usize, cells: usize, set: CellSet)
+    requires { ⌜ Room (now out) at cells ⌝ }
+    requires { ⌜ Cells cells (member (set .words)) ⌝ }
+    ensures { λ r. ⌜ now (out .exit) ≡ placed at (rowOf cells (member (set .words))) (now (out .entry)) ⌝ }
+{
+    let count = row_bytes(cells);
+    let mut j = 0;
+    while j < count {
+        out[at + j] = row_byte(set, j);
+        j += 1;
+    }
+}

@@ -1,0 +1,132 @@
+-- Laws of one position of a pass and of a pass, over the sets that hold what is on.
+use Prim.Native.Nat.{ℕ, zero, suc, _+_, _-_, _<_, _≤_}
+use mathlib.Core.Path.{_≡_, refl, sym, _∙_, ap, subst, fun-ext}
+use mathlib.Core.Bool.{Bool, true, false, cond, not, _&&_, _||_, and-false}
+use mathlib.Core.List.{List, [], _∷_}
+use native.Mathlib.Numerals.{sub-one}
+use native.Mathlib.Omega.{arith}
+use lib.Dec.{eqb}
+use lib.ListN.{getD}
+use Rattle.rules.specs.Basics.{has}
+use Rattle.rules.specs.File.{Board, boardOf, cellsOf, netsOf, netOf}
+use Rattle.rules.specs.Drivers.{controlled, controlFor, drives}
+use Rattle.rules.specs.Groups.{marked, turn, pass, firstPass, secondPass, selected, earlier, group, onIn}
+use Rattle.rules.specs.declared.Net.{Net}
+use Rattle.rules.specs.declared.Position.{Position}
+use Rattle.rules.proofs.Acceptance.{kept-net}
+use Rattle.rules.proofs.Shape.{whole-records}
+use Rattle.rules.proofs.Tests.{or-left}
+use Rattle.rules.proofs.Passes.{has-append}
+use Rattle.words.specs.Sets.{member, nothing, either, plus}
+use Rattle.board.specs.declared.drivers.Driver.the-variants.{Of, Nothing}
+use Rattle.board.specs.Driving.{driverIn}
+use Rattle.board.proofs.Drives.{is-driver, no-driver, net-below}
+use Rattle.select.specs.declared.turns.Pass.{Pass}
+use Rattle.select.specs.declared.turns.Pass.the-variants.{First, Second}
+use Rattle.select.specs.declared.turns.Turned.{Turned}
+use Rattle.select.specs.Turns.{wantedAt, wantedIn, allowedIn, coveredBy, listed, reached, Holds, Ready}
+use Rattle.select.proofs.Largest.{degree-held}
+use Rattle.select.proofs.Marking.{marked-reached}
+
+-- one cell more is on
+pub on-grown : (f g : ℕ → Bool) (on : List ℕ) (k : ℕ) → f ≡ listed on → g ≡ plus f k → g ≡ listed (k ∷ on)
+unfolding has
+on-grown f g on k e h = fun-ext (λ m. ap (λ (s : ℕ → Bool). s m) h ∙ ap (λ (s : ℕ → Bool). eqb m k || s m) e)
+
+-- and its nets are covered
+pub covered-grown : (b : Board) (nets f g : ℕ → Bool) (on : List ℕ) (k : ℕ) → nets ≡ drives b k → f ≡ coveredBy b on → g ≡ either nets f → g ≡ coveredBy b (k ∷ on)
+unfolding coveredBy
+covered-grown b nets f g on k n e h =
+    fun-ext (λ m. ap (λ (s : ℕ → Bool). s m) h ∙ ap (λ (s : ℕ → Bool). s m || f m) n ∙ ap (λ (s : ℕ → Bool). drives b k m || s m) e)
+
+-- sets that hold one list hold the same list under another name
+pub holds-same : {b : Board} {state : Turned} {on now : List ℕ} → on ≡ now → Holds b on state → Holds b now state
+holds-same {b} {state} e h = subst (λ (l : List ℕ). Holds b l state) e h
+
+-- what one position does, by what stands there
+module _ (b : Board) (wanted allowed : ℕ → Bool) (c : ℕ) (on : List ℕ) where
+  pub turn-none : driverIn (b .cell c) ≡ Nothing → on ≡ turn b wanted allowed c on
+  unfolding turn
+  turn-none e = rw (no-driver b c e)
+
+  module _ (k : Position) (n : Net) (e : driverIn (b .cell c) ≡ Of k n) where
+    -- its test: the net is wanted, the control cell allowed and unmarked
+    turn-is : turn b wanted allowed c on ≡ cond (wanted (n .0) && allowed (k .0) && not (marked b on (k .0))) (k .0 ∷ on) on
+    unfolding turn
+    turn-is = let d = is-driver b c k n e in rw (d .0, d .1, d .2)
+
+    pub turn-unwanted : wanted (n .0) ≡ false → on ≡ turn b wanted allowed c on
+    turn-unwanted w = sym (turn-is ∙ rw w)
+
+    pub turn-barred : allowed (k .0) ≡ false → on ≡ turn b wanted allowed c on
+    turn-barred a = sym (turn-is ∙ rw (a, and-false (wanted (n .0))))
+
+    pub turn-marked : marked b on (k .0) ≡ true → on ≡ turn b wanted allowed c on
+    turn-marked m = sym (turn-is ∙ rw (m, and-false (wanted (n .0) && allowed (k .0))))
+
+    pub turn-on : wanted (n .0) ≡ true → allowed (k .0) ≡ true → marked b on (k .0) ≡ false → (k .0 ∷ on) ≡ turn b wanted allowed c on
+    turn-on w a m = sym (turn-is ∙ rw (w, a, m))
+
+-- what the tables and the sets say of a driver of an accepted board
+module _ (file heads links counts : List ℕ) (ready : Ready file heads links counts) (c : ℕ) (l : c < cellsOf file) (k : Position) (n : Net) (e : driverIn (boardOf file .cell c) ≡ Of k n) where
+  pub wanted-told : (which : Pass) (g held : ℕ) (r a : Bool) → held ≡ getD counts (n .0) 0 → r ≡ wantedAt which g held → r ≡ a → wantedIn (boardOf file) which g (n .0) ≡ a
+  unfolding wantedIn
+  wanted-told which g held r a h w t =
+      ap (wantedAt which g) (sym (h ∙ degree-held file heads links counts ready (n .0) (net-below file (ready .by-control .checked) c l k n e))) ∙ sym w ∙ t
+
+  pub marked-told : (on : List ℕ) (f : ℕ → Bool) (r a : Bool) → f ≡ coveredBy (boardOf file) on → r ≡ reached (boardOf file) f (k .0) → r ≡ a → marked (boardOf file) on (k .0) ≡ a
+  unfolding boardOf
+  marked-told on f r a h w t =
+      let d = is-driver (boardOf file) c k n e in
+      let m = marked-reached (boardOf file) known on c l (d .0) in
+      ap (marked (boardOf file) on) (sym (d .1)) ∙ m ∙ ap (reached (boardOf file) (coveredBy (boardOf file) on)) (d .1) ∙ ap (λ (s : ℕ → Bool). reached (boardOf file) s (k .0)) (sym h) ∙ sym w ∙ t
+    where
+      known : (x : ℕ) → x < cellsOf file → controlled (boardOf file) x ≡ true → netOf (boardOf file .cell x) < netsOf file
+      known x m q = kept-net file (whole-records file (ready .by-control .checked)) x m (or-left _ q)
+
+-- the pass, from position c on down
+pub pass-end : (b : Board) (wanted allowed : ℕ → Bool) (c : ℕ) (on : List ℕ) → c ≤ 0 → pass b wanted allowed c on ≡ on
+unfolding pass
+pass-end b wanted allowed zero on h = refl
+pass-end b wanted allowed (suc c) on h = absurd (omega arith)
+
+pub pass-step : (b : Board) (wanted allowed : ℕ → Bool) (c : ℕ) (on : List ℕ) → 0 < c → pass b wanted allowed c on ≡ pass b wanted allowed (c - 1) (turn b wanted allowed (c - 1) on)
+unfolding pass
+pass-step b wanted allowed zero on h = absurd (omega arith)
+pass-step b wanted allowed (suc c) on h = rw sub-one
+
+-- a group at its start, and at its end
+pub holds-none : (b : Board) (state : Turned) → member (state .on .words) ≡ nothing → member (state .covered .words) ≡ nothing → Holds b [] state
+unfolding has coveredBy
+holds-none b state e f = record { on-are = e; covered-are = f }
+
+pub selected-is : (b : Board) (g : ℕ) (used : List ℕ) (f : ℕ → Bool) (size : ℕ) (state : Turned) → f ≡ listed used → size ≡ b .size → Holds b (pass b (wantedIn b Second g) (allowedIn Second f) size (pass b (wantedIn b First g) (allowedIn First f) size [])) state → member (state .on .words) ≡ listed (selected b g used)
+unfolding selected firstPass secondPass wantedIn wantedAt allowedIn
+selected-is b g used f size state e s h =
+    h .on-are
+    ∙ ap (λ (x : ℕ). listed (pass b (wantedIn b Second g) (allowedIn Second f) x (pass b (wantedIn b First g) (allowedIn First f) x []))) s
+    ∙ ap (λ (t : ℕ → Bool). listed (pass b (wantedIn b Second g) (allowedIn Second t) (b .size) (pass b (wantedIn b First g) (allowedIn First t) (b .size) []))) e
+
+-- group by group: no earlier group, one more of them, and the group itself
+pub earlier-none : (b : Board) (f : ℕ → Bool) → f ≡ nothing → f ≡ listed (earlier b 0)
+unfolding has earlier
+earlier-none b f e = e
+
+pub earlier-more : (b : Board) (j : ℕ) (on f g : ℕ → Bool) → 0 < j → on ≡ listed (selected b j (earlier b (j - 1))) → f ≡ listed (earlier b (j - 1)) → g ≡ either on f → g ≡ listed (earlier b j)
+unfolding earlier
+earlier-more b zero on f g l s e h = absurd (omega arith)
+earlier-more b (suc j) on f g l s e h =
+    fun-ext (λ m. ap (λ (t : ℕ → Bool). t m) h
+    ∙ ap (λ (t : ℕ → Bool). t m || f m) (rw sub-one at s)
+    ∙ ap (λ (t : ℕ → Bool). has m (selected b (suc j) (earlier b j)) || t m) (rw sub-one at e)
+    ∙ sym (has-append m (selected b (suc j) (earlier b j)) (earlier b j)))
+
+pub group-is : (b : Board) (g : ℕ) (on : ℕ → Bool) → 0 < g → on ≡ listed (selected b g (earlier b (g - 1))) → on ≡ onIn b g
+unfolding onIn group
+group-is b zero on l e = absurd (omega arith)
+group-is b (suc j) on l e = rw sub-one at e
+
+-- the board has as many cells as the file says
+pub board-size : (file : List ℕ) (cells : ℕ) → cells ≡ cellsOf file → cells ≡ boardOf file .size
+unfolding boardOf
+board-size file cells e = e

@@ -1,0 +1,17 @@
+-- By which pass it is.
+use mathlib.Core.Path.{refl, sym}
+use borrow.Author.Needs.{needs}
+use Rattle.select.specs.Turns.{wantedAt}
+use Rattle.select.proofs.turns.wanted.Statement.{statement}
+use Rattle.select.proofs.turns.wanted.Tie as tie
+
+returns : tie.Need-returns
+unfolding wantedAt
+returns c = rw (c .enum-told .given .1)
+
+returns-2 : tie.Need-returns-2
+unfolding wantedAt
+returns-2 c = rw (c .enum-told2 .given .1)
+
+pub wanted-spec : {M : Type 1} → statement M
+wanted-spec = tie.close (tie.spec (λ c. search needs) (λ c. search needs) returns returns-2)

@@ -1,0 +1,59 @@
+-- The two passes' tests, and what the sets of a pass hold: the control cells that are on, and their nets.
+use Prim.Native.Nat.{ℕ}
+use mathlib.Core.Path.{_≡_}
+use mathlib.Core.Bool.{Bool, true, false, not, _&&_, _||_}
+use mathlib.Core.List.{List, [], _∷_}
+use lib.Dec.{ltb, leb, eqb}
+use Rattle.rules.specs.Basics.{any, has}
+use Rattle.rules.specs.File.{Board, cellsOf, netOf}
+use Rattle.rules.specs.Drivers.{controlled, controlFor, degree, drives}
+use Rattle.rules.specs.Refusals.{judge, boardChecks}
+use Rattle.rules.specs.declared.Verdict.the-variants.{Accepted}
+use Rattle.words.specs.Sets.{member}
+use Rattle.board.specs.declared.chains.By.the-variants.{ControlCell}
+use Rattle.board.specs.Chains.{Chains}
+use Rattle.board.specs.Driving.{Counted}
+use Rattle.select.specs.declared.turns.Pass.{Pass}
+use Rattle.select.specs.declared.turns.Pass.the-variants.{First, Second}
+use Rattle.select.specs.declared.turns.Turned.{Turned}
+
+-- "whose net has degree g or more"; in the second pass "degree below g"
+unfoldable pub wantedAt : Pass → ℕ → ℕ → Bool
+wantedAt First g d = leb g d
+wantedAt Second g d = ltb d g
+
+unfoldable pub wantedIn : Board → Pass → ℕ → ℕ → Bool
+wantedIn b which g n = wantedAt which g (degree b n)
+
+-- "was on in no earlier group"; in the second pass "earlier groups don't matter"
+unfoldable pub allowedIn : Pass → (ℕ → Bool) → ℕ → Bool
+allowedIn First used k = not (used k)
+allowedIn Second used k = true
+
+-- the cell at c is a driver whose net is in f
+unfoldable pub onCovered : Board → (ℕ → Bool) → ℕ → Bool
+onCovered b f c = controlled b c && f (netOf (b .cell c))
+
+-- a driver of control cell k has its net in f
+unfoldable pub reached : Board → (ℕ → Bool) → ℕ → Bool
+reached b f k = any (b .size) (λ c. controlled b c && eqb (controlFor b c) k && f (netOf (b .cell c)))
+
+-- the nets of the control cells that are on
+unfoldable pub coveredBy : Board → List ℕ → ℕ → Bool
+coveredBy b [] n = false
+coveredBy b (t ∷ on) n = drives b t n || coveredBy b on n
+
+-- a list of cells, as a set
+abbrev pub listed : List ℕ → ℕ → Bool
+listed on k = has k on
+
+-- the sets are those of the control cells that are on
+pub record Holds (b : Board) (on : List ℕ) (state : Turned) : Type 0 where
+  pub on-are : member (state .on .words) ≡ listed on
+  pub covered-are : member (state .covered .words) ≡ coveredBy b on
+
+-- an accepted board with its chains by control cell and its counts of drivers
+pub record Ready (file heads links counts : List ℕ) : Type 0 where
+  pub accepted : judge (boardChecks file) ≡ Accepted
+  pub by-control : Chains file ControlCell heads links
+  pub counted : Counted file (cellsOf file) counts

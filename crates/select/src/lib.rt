@@ -1,0 +1,4 @@
+// The groups: which control cells are on in each, by the passes of document 01 over an accepted board.
+pub mod degrees;
+pub mod groups;
+pub mod turns;
