@@ -1,0 +1,31 @@
+-- The numbers of an admitted board are small.
+use Prim.Native.Nat.{ℕ, _*_, _≤_, _<_}
+use mathlib.Core.Path.{_≡_, sym, _∙_}
+use mathlib.Core.List.{List}
+use native.Mathlib.Omega.{arith}
+use borrow.Author.Tests.{ltb-false}
+use lib.Dec.{ltb}
+use lib.ListN.{length}
+use Rattle.rules.specs.File.{boardOf}
+use Rattle.rules.specs.Refusals.{judge, boardChecks, countChecks, mostVectors}
+use Rattle.rules.specs.Vectors.{stepsOf, totalOf}
+use Rattle.rules.specs.declared.Verdict.the-variants.{Accepted}
+use Rattle.rules.proofs.Verdicts.{all-pass, append-pass}
+use Rattle.plan.specs.declared.steps.Plan.{Plan}
+use Rattle.plan.specs.Plans.{basesFor}
+use Rattle.plan.specs.Planning.{PlanOf}
+use Rattle.plan.proofs.Planned.{small-plan, groups-low, total-is}
+
+pub total-low : (file : List ℕ) → judge (countChecks file) ≡ Accepted → totalOf (boardOf file) ≤ 4096
+unfolding countChecks
+total-low file ok =
+    ltb-false mostVectors (totalOf (boardOf file)) (append-pass (boardChecks file) _ (all-pass (countChecks file) ok) .1 .0 0 (omega arith))
+
+pub vectors-low : (file : List ℕ) (p : Plan) (t : ℕ) → judge (countChecks file) ≡ Accepted → PlanOf (boardOf file) p → t ≡ length (stepsOf (basesFor p)) → t ≤ 65535
+vectors-low file p t ok h e = let l = total-low file ok in omega (arith, e ∙ total-is (boardOf file) p h)
+
+pub groups-few : (file : List ℕ) (p : Plan) → judge (boardChecks file) ≡ Accepted → PlanOf (boardOf file) p → p .groups ≤ 65535
+groups-few file p ok h = let l = groups-low file ok in omega (arith, h .groups-are)
+
+pub wide-few : (file : List ℕ) (p : Plan) → judge (boardChecks file) ≡ Accepted → PlanOf (boardOf file) p → p .wide ≤ 65535
+wide-few file p ok h = let l = small-plan file ok p h .narrow in omega arith

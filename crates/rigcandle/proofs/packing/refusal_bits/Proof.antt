@@ -1,0 +1,13 @@
+-- The fields stand one after the other.
+use native.Mathlib.Omega.{arith}
+use borrow.Author.Needs.{needs}
+use Rattle.rules.specs.Answers.{pack}
+use Rattle.rigcandle.proofs.packing.refusal_bits.Statement.{statement}
+use Rattle.rigcandle.proofs.packing.refusal_bits.Tie as tie
+
+returns : tie.Need-returns
+unfolding pack
+returns c = omega arith
+
+pub refusal-bits-spec : {M : Type 1} → statement M
+refusal-bits-spec = tie.close (tie.spec (λ c. omega arith) (λ c. omega arith) (λ c. omega arith) (λ c. omega arith) (λ c. omega arith) (λ c. omega arith) (λ c. omega arith) returns)

@@ -1,0 +1,210 @@
+/*
+ * rigcandle.h - boundary-scan interconnect test: four questions about a board file.
+ *
+ * Each question is asked with the bytes of the board file itself and answers with one 64-bit number. Nothing is kept between calls,
+ * nothing is allocated, no file is opened and nothing is printed; calls may run at the same time in several threads.
+ *
+ * An answer is read with the functions at the end of this header:
+ *
+ *     uint64_t answer = count(file, file_len);
+ *     if (rigcandle_refusal(answer) != RIGCANDLE_ACCEPTED)
+ *         printf("refused %u %u\n", rigcandle_refusal(answer), rigcandle_place(answer));
+ *     else
+ *         printf("vectors %u\n", rigcandle_count_total(answer));
+ *
+ * What a caller owes, since no library can check it:
+ *   - a length is true: that many bytes may be read (file, capture) or written (out);
+ *   - buffers do not overlap, and nobody else writes to them during the call;
+ *   - a pointer may be null only with length 0.
+ * Any bytes may stand in the file and in the capture: what is wrong with them is answered as a numbered refusal.
+ *
+ * What a caller gets:
+ *   - the file and the capture are only read;
+ *   - a refusal writes no byte;
+ *   - an accepted call writes the bytes it needs, from the first of out on, and those past them keep their values.
+ *
+ * Linking: librigcandle.a needs memcpy, memmove and memset, and nothing else.
+ *
+ * Names: the four functions are called groups, count, vector and marks, as in the document, and these are common names. Include this
+ * header only where the questions are asked. A program must have no other global function or variable of these names; where it does,
+ * rename the library's (objcopy --redefine-sym vector=board_vector librigcandle.a) and declare the new name. A C++ file that says
+ * "using namespace std" writes ::vector and ::count. Every other name here begins with rigcandle_ or RIGCANDLE_.
+ *
+ * docs/INTERFACE.md has the layout of the 64 bits, what to do about each refusal, and a complete example.
+ */
+#ifndef RIGCANDLE_H
+#define RIGCANDLE_H
+
+#include <stddef.h>
+#include <stdint.h>
+
+/* Limits of a board, and the sizes of buffers that follow from them. */
+enum {
+    RIGCANDLE_BLOCK_SIZE = 512,      /* bytes in a block of the board file */
+    RIGCANDLE_MOST_BLOCKS = 14,      /* blocks in a board file */
+    RIGCANDLE_MOST_CELLS = 1024,     /* C */
+    RIGCANDLE_MOST_NETS = 256,       /* N; also the bytes that marks writes at most */
+    RIGCANDLE_MOST_GROUPS = 16,      /* G: as many as there are controlled drivers on a net */
+    RIGCANDLE_MOST_VECTORS = 4096,   /* the total */
+    RIGCANDLE_MOST_FILE = RIGCANDLE_MOST_BLOCKS * RIGCANDLE_BLOCK_SIZE,
+    RIGCANDLE_MOST_ROW = RIGCANDLE_MOST_CELLS / 8,                              /* R; the bytes that vector writes at most */
+    RIGCANDLE_MOST_GROUP_ROWS = RIGCANDLE_MOST_GROUPS * RIGCANDLE_MOST_ROW,     /* the bytes that groups writes at most */
+    RIGCANDLE_MOST_CAPTURE = RIGCANDLE_MOST_VECTORS * RIGCANDLE_MOST_ROW
+};
+
+/*
+ * The refusals, checked in ascending order: the first that applies is given. 1 to 12 belong to all four questions, 13 to vector, 14 to
+ * marks, 15 to the three that write. In brackets what rigcandle_place gives.
+ */
+enum {
+    RIGCANDLE_ACCEPTED = 0,
+    RIGCANDLE_FILE_LENGTH = 1,       /* file empty, not a multiple of 512, or over 14 blocks (0) */
+    RIGCANDLE_BLOCK_SUMS = 2,        /* some block's a or b is wrong (lowest block) */
+    RIGCANDLE_HEADER_LAYOUT = 3,     /* block 0 differs from its layout, not C, N, SSOL (0) */
+    RIGCANDLE_HEADER_LIMITS = 4,     /* C, N or SSOL outside its limits (0) */
+    RIGCANDLE_BLOCK_LAYOUT = 5,      /* wrong number of blocks (0), or a cell block differs from its layout outside the records
+                                        (lowest block) */
+    RIGCANDLE_RECORD = 6,            /* a record breaks the table of cell kinds (lowest position) */
+    RIGCANDLE_NO_OUTPUT = 7,         /* a net has no kind 3 or 4 output (lowest net) */
+    RIGCANDLE_CLASH = 8,             /* a net has a kind 4 output and another output, or two outputs of one control cell (lowest net) */
+    RIGCANDLE_DRIVERS = 9,           /* a net has over 16 controlled drivers (lowest net) */
+    RIGCANDLE_CROSSING = 10,         /* two control cells' net sets meet and neither holds the other (lowest position that is the
+                                        smaller of such a pair) */
+    RIGCANDLE_UNEVEN = 11,           /* a control cell's nets differ in number of controlled drivers (lowest such cell) */
+    RIGCANDLE_VECTORS = 12,          /* over 4,096 vectors (0) */
+    RIGCANDLE_VECTOR_NUMBER = 13,    /* vector number not below the count (0) */
+    RIGCANDLE_CAPTURE_LENGTH = 14,   /* capture is not vectors x R bytes (0) */
+    RIGCANDLE_BUFFER_SHORT = 15      /* lent buffer too short (0) */
+};
+
+/* The marks, one byte a net; the first row of the document's table that applies is given, in the order 2, 1, 3, 0. */
+enum {
+    RIGCANDLE_PASS = 0,              /* pass: otherwise */
+    RIGCANDLE_FAIL = 1,              /* fail: an input cell of it once differs from its value */
+    RIGCANDLE_NOT_SEEN = 2,          /* unsure, not seen: the net has no input cell */
+    RIGCANDLE_READ_TWICE = 3         /* unsure, read twice: an input cell of another net reads this net's own word in every vector */
+};
+
+#ifdef __cplusplus
+extern "C" {
+#endif
+
+/*
+ * The groups of control cells. Writes G rows of R = ceil(C / 8) bytes, group 1 first: the bit at a position is 1 for a control cell that
+ * is on. Position c is bit c mod 8 (from the least) of byte c / 8; spare bits are 0.
+ * Answers G. Refusals 1 to 12 and 15.
+ */
+uint64_t groups(const uint8_t *file, size_t file_len, uint8_t *out, size_t out_len);
+
+/*
+ * The number of vectors. Writes nothing.
+ * Answers G, p (the patterns of a group) and the total. Refusals 1 to 12.
+ */
+uint64_t count(const uint8_t *file, size_t file_len);
+
+/*
+ * The vector of this number, from 0 to total - 1. Writes its row of R bytes, in the groups' bit order: what is shifted into the chain.
+ * Answers its group, from 1. Refusals 1 to 12, 13 and 15.
+ */
+uint64_t vector(const uint8_t *file, size_t file_len, uint64_t number, uint8_t *out, size_t out_len);
+
+/*
+ * The marks for a capture: a row of R bytes for each vector, vector 0 first, in the same bit order; only input cells are looked at.
+ * Writes N bytes, net 0 first, each one of the four marks above.
+ * Answers how many nets pass, fail and are unsure. Refusals 1 to 12, 14 and 15.
+ */
+uint64_t marks(const uint8_t *file, size_t file_len, const uint8_t *capture, size_t capture_len, uint8_t *out, size_t out_len);
+
+#ifdef __cplusplus
+}
+#endif
+
+/* ------------------------------------------------------------------------------------------------------------------------------------
+ * Reading an answer. A refused call has number and place, and every other number is 0; an accepted one has 0 for number and place.
+ */
+
+/* The number in `width` of an answer's bits, from bit `from` on. */
+static inline unsigned rigcandle_bits(uint64_t answer, unsigned from, unsigned width)
+{
+    return (unsigned)((answer >> from) & ((1u << width) - 1u));
+}
+
+/* The refusal's number, any question; RIGCANDLE_ACCEPTED where there is none. */
+static inline unsigned rigcandle_refusal(uint64_t answer)
+{
+    return rigcandle_bits(answer, 0, 8);
+}
+
+/* These bits of a refused answer, and 0 of an accepted one. */
+static inline unsigned rigcandle_if_refused(uint64_t answer, unsigned from, unsigned width)
+{
+    return rigcandle_refusal(answer) != RIGCANDLE_ACCEPTED ? rigcandle_bits(answer, from, width) : 0u;
+}
+
+/* These bits of an accepted answer, and 0 of a refused one. */
+static inline unsigned rigcandle_if_accepted(uint64_t answer, unsigned from, unsigned width)
+{
+    return rigcandle_refusal(answer) == RIGCANDLE_ACCEPTED ? rigcandle_bits(answer, from, width) : 0u;
+}
+
+/* The refusal's place, any question: a block, a position or a net, by the refusal's number. */
+static inline unsigned rigcandle_place(uint64_t answer)
+{
+    return rigcandle_if_refused(answer, 8, 16);
+}
+
+/* The refusal's second place, any question; 0 for every refusal of today. */
+static inline unsigned rigcandle_second_place(uint64_t answer)
+{
+    return rigcandle_if_refused(answer, 24, 16);
+}
+
+/* groups: G. */
+static inline unsigned rigcandle_groups_g(uint64_t answer)
+{
+    return rigcandle_if_accepted(answer, 8, 8);
+}
+
+/* count: G. */
+static inline unsigned rigcandle_count_g(uint64_t answer)
+{
+    return rigcandle_if_accepted(answer, 8, 8);
+}
+
+/* count: p. */
+static inline unsigned rigcandle_count_p(uint64_t answer)
+{
+    return rigcandle_if_accepted(answer, 16, 8);
+}
+
+/* count: the total of vectors. */
+static inline unsigned rigcandle_count_total(uint64_t answer)
+{
+    return rigcandle_if_accepted(answer, 24, 16);
+}
+
+/* vector: its group, from 1. */
+static inline unsigned rigcandle_vector_group(uint64_t answer)
+{
+    return rigcandle_if_accepted(answer, 8, 8);
+}
+
+/* marks: the number of nets that pass. */
+static inline unsigned rigcandle_marks_pass(uint64_t answer)
+{
+    return rigcandle_if_accepted(answer, 8, 16);
+}
+
+/* marks: the number of nets that fail. */
+static inline unsigned rigcandle_marks_fail(uint64_t answer)
+{
+    return rigcandle_if_accepted(answer, 24, 16);
+}
+
+/* marks: the number of nets that are unsure, of either kind. */
+static inline unsigned rigcandle_marks_unsure(uint64_t answer)
+{
+    return rigcandle_if_accepted(answer, 40, 16);
+}
+
+#endif

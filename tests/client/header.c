@@ -1,0 +1,76 @@
+/*
+ * header.c - include/rigcandle.h itself, compiled as C and as C++: that it can be included twice and beside std::vector and std::count,
+ * that the four names link from both languages, and that every function takes its number out of the bits that docs/INTERFACE.md gives.
+ */
+#include "rigcandle.h"
+#include "rigcandle.h"
+
+#include <stdio.h>
+
+#ifdef __cplusplus
+#include <algorithm>
+#include <vector>
+using namespace std;
+#define LIBRARY(name) ::name
+#else
+#define LIBRARY(name) name
+#endif
+
+static int wrong;
+
+static void same(const char *what, unsigned got, unsigned wanted)
+{
+    if (got != wanted) {
+        fprintf(stderr, "header: %s: wanted %x, got %x\n", what, wanted, got);
+        wrong = 1;
+    }
+}
+
+/* All other bits are set, so that a field that is cut too wide shows. */
+static void check_accepted(void)
+{
+    const uint64_t answer = UINT64_C(0xFEDCBA9876543200);
+    same("number", rigcandle_refusal(answer), 0);
+    same("place", rigcandle_place(answer), 0);
+    same("second place", rigcandle_second_place(answer), 0);
+    same("groups, G", rigcandle_groups_g(answer), 0x32);
+    same("count, G", rigcandle_count_g(answer), 0x32);
+    same("count, p", rigcandle_count_p(answer), 0x54);
+    same("count, total", rigcandle_count_total(answer), 0x9876);
+    same("vector, group", rigcandle_vector_group(answer), 0x32);
+    same("marks, pass", rigcandle_marks_pass(answer), 0x5432);
+    same("marks, fail", rigcandle_marks_fail(answer), 0x9876);
+    same("marks, unsure", rigcandle_marks_unsure(answer), 0xDCBA);
+}
+
+static void check_refused(void)
+{
+    const uint64_t answer = UINT64_C(0xFEDCBA987654320A);
+    same("refused, number", rigcandle_refusal(answer), RIGCANDLE_CROSSING);
+    same("refused, place", rigcandle_place(answer), 0x5432);
+    same("refused, second place", rigcandle_second_place(answer), 0x9876);
+    same("refused, groups, G", rigcandle_groups_g(answer), 0);
+    same("refused, count, G", rigcandle_count_g(answer), 0);
+    same("refused, count, p", rigcandle_count_p(answer), 0);
+    same("refused, count, total", rigcandle_count_total(answer), 0);
+    same("refused, vector, group", rigcandle_vector_group(answer), 0);
+    same("refused, marks, pass", rigcandle_marks_pass(answer), 0);
+    same("refused, marks, fail", rigcandle_marks_fail(answer), 0);
+    same("refused, marks, unsure", rigcandle_marks_unsure(answer), 0);
+}
+
+static void check_empty_file(void)
+{
+    same("groups", rigcandle_refusal(LIBRARY(groups)(NULL, 0, NULL, 0)), RIGCANDLE_FILE_LENGTH);
+    same("count", rigcandle_refusal(LIBRARY(count)(NULL, 0)), RIGCANDLE_FILE_LENGTH);
+    same("vector", rigcandle_refusal(LIBRARY(vector)(NULL, 0, 0, NULL, 0)), RIGCANDLE_FILE_LENGTH);
+    same("marks", rigcandle_refusal(LIBRARY(marks)(NULL, 0, NULL, 0, NULL, 0)), RIGCANDLE_FILE_LENGTH);
+}
+
+int main(void)
+{
+    check_accepted();
+    check_refused();
+    check_empty_file();
+    return wrong;
+}
