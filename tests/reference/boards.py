@@ -526,9 +526,10 @@ def fault_5(rng, file):
                 out[at + rng.choice([rest, 507, rng.randint(rest, 507)])] = rng.randint(1, 255)
             place = k if place is None else min(place, k)
     if style == 2 and count % 84 != 0:
-        # another C that needs the same blocks: the last block's count is wrong
+        # another C that needs the same blocks: the last block's count, changed above or not, is wrong
         low = 84 * ((count - 1) // 84) + 1
-        new = rng.choice([c for c in range(low, min(low + 84, 1025)) if c != count])
+        said = low - 1 + out[512 * (blocks - 1) + 3]
+        new = rng.choice([c for c in range(low, min(low + 84, 1025)) if c not in (count, said)])
         out[10:12] = new.to_bytes(2, "little")
         place = min(place, blocks - 1)
     if style in (1, 3):
