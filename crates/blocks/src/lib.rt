@@ -94,19 +94,19 @@ fn sums_right(file: &[u8], i: usize) -> bool
     number(file, to) == s.a as usize && number(file, to + 2) == s.b as usize
 }
 
-// The bytes from `from` up to `to`, and not `to` itself, are zero.
+// The bytes from `from` up to `to`, and not `to` itself, are zero: all of them together have no digit. Without a way out of the loop the
+// compiler takes many bytes at a time.
 fn zeros(file: &[u8], from: usize, to: usize) -> bool
     requires { ⌜ to ≤ length (now file) ⌝ }
     ensures { λ r. ⌜ r ≡ zeros (now (file .entry)) from to ⌝ }
 {
+    let mut digits = 0;
     let mut at = from;
     while at < to {
-        if file[at] != 0 {
-            return false;
-        }
+        digits = digits | file[at];
         at += 1;
     }
-    true
+    digits == 0
 }
 
 // The head of block i, as it stands in the file.

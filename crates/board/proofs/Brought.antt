@@ -1,12 +1,12 @@
 -- What a whole chain brings: a control cell's nets, a net's control cells, and the control cells that share a net.
-use Prim.Native.Nat.{ℕ, _<_, _≤_}
+use Prim.Native.Nat.{ℕ, _*_, _<_, _≤_}
 use mathlib.Core.Path.{_≡_, refl, sym, _∙_, ap, ap₂, fun-ext}
 use mathlib.Core.Logic.{⊎-elim}
 use mathlib.Core.Bool.{Bool, true, false, _&&_, _||_, and-true, or-comm}
 use mathlib.Core.List.{List}
 use native.Mathlib.Omega.{arith}
 use borrow.Author.Tests.{eqb-true, eq-eqb}
-use lib.Dec.{eqb}
+use lib.Dec.{eqb, ltb}
 use Rattle.rules.specs.Basics.{any}
 use Rattle.rules.specs.File.{Board, boardOf, cellsOf, netsOf, netOf}
 use Rattle.rules.specs.Drivers.{controlled, controlFor, alwaysOn, onNet, outputOf, driverOf, drives, meets}
@@ -14,13 +14,14 @@ use Rattle.rules.specs.Refusals.{judge, fileChecks}
 use Rattle.rules.specs.declared.Verdict.the-variants.{Accepted}
 use Rattle.rules.proofs.Tests.{left, right, both, or-left, same-test, any-at, any-member}
 use Rattle.rules.proofs.Driving.{driver-output, drives-driver, driver-drives, meets-at, meets-net}
-use Rattle.rules.proofs.Shape.{whole-records}
+use Rattle.rules.proofs.Shape.{laid, shaped, whole-records}
 use Rattle.rules.proofs.Acceptance.{kept-net}
-use Rattle.words.specs.Sets.{nothing}
+use Rattle.words.specs.Sets.{netWords, nothing, plus}
 use Rattle.board.specs.declared.chains.By.the-variants.{ControlCell, NetOf}
 use Rattle.board.specs.Chains.{keyed}
-use Rattle.board.specs.Sharing.{withNet, withControl, withControls, withSharers}
+use Rattle.board.specs.Sharing.{withControl, withControls, withSharers, partnersOf}
 use Rattle.board.proofs.Chaining.{keyed-net, keyed-control}
+use Rattle.board.proofs.Sets.{eqb-back}
 
 module _ (b : Board) where
   -- control cell k's driver at c brings net m; net n's driver at c brings control cell j: the same test
@@ -31,37 +32,59 @@ module _ (b : Board) where
   unfolding driverOf
   brings-control k m c h = keyed-control b k c ∙ both (right (onNet b m c) (left (driverOf b m c) _ h)) (right (driverOf b m c) h)
 
-  pub brings-net : (n j c : ℕ) → brings j n c ≡ true → keyed b NetOf n c ≡ true
-  brings-net n j c h = keyed-net b n c ∙ driver-output b n c (left (driverOf b n c) _ h)
+  -- the same for the control cells above low alone
+  abbrev pub bringsAbove : ℕ → ℕ → ℕ → ℕ → Bool
+  bringsAbove low n j c = brings j n c && ltb low j
 
-  pub net-grown : (k c : ℕ) (f : ℕ → Bool) → keyed b ControlCell k c ≡ true → (m : ℕ) → withNet b c f m ≡ (brings k m c || f m)
-  unfolding withNet
+  pub brings-net : (low n j c : ℕ) → bringsAbove low n j c ≡ true → keyed b NetOf n c ≡ true
+  brings-net low n j c h = keyed-net b n c ∙ driver-output b n c (left (driverOf b n c) _ (left (brings j n c) _ h))
+
+  net-grown : (k c : ℕ) (f : ℕ → Bool) → keyed b ControlCell k c ≡ true → (m : ℕ) → plus f (netOf (b .cell c)) m ≡ (brings k m c || f m)
+  unfolding driverOf onNet
   net-grown k c f h m =
-      ap (λ (x : Bool). x || f m) (sym (and-true (driverOf b m c)) ∙ ap (λ (x : Bool). driverOf b m c && x) (sym (right (controlled b c) (sym (keyed-control b k c) ∙ h))))
+      let on = sym (keyed-control b k c) ∙ h in
+      let e : brings k m c ≡ eqb m (netOf (b .cell c)) =
+      rw (left (controlled b c) _ on, right (controlled b c) on, and-true (eqb (netOf (b .cell c)) m), and-true (eqb (netOf (b .cell c)) m)) (eqb-back (netOf (b .cell c)) m) in
+      ap (λ (x : Bool). x || f m) (sym e)
 
-  pub control-grown : (n c : ℕ) (f : ℕ → Bool) → keyed b NetOf n c ≡ true → (j : ℕ) → withControl b c f j ≡ (brings j n c || f j)
+  pub net-brought : (k c n : ℕ) (f g : ℕ → Bool) → n ≡ netOf (b .cell c) → g ≡ plus f n → keyed b ControlCell k c ≡ true → (m : ℕ) → g m ≡ (brings k m c || f m)
+  net-brought k c n f g e h on m =
+      ap (λ (s : ℕ → Bool). s m) h ∙ ap (λ (x : ℕ). plus f x m) e ∙ net-grown k c f on m
+
+  pub control-grown : (low n c : ℕ) (f : ℕ → Bool) → keyed b NetOf n c ≡ true → (j : ℕ) → withControl b low c f j ≡ (bringsAbove low n j c || f j)
   unfolding withControl driverOf outputOf
-  control-grown n c f h j = rw (left (onNet b n c) _ (sym (keyed-net b n c) ∙ h))
+  control-grown low n c f h j = rw (left (onNet b n c) _ (sym (keyed-net b n c) ∙ h))
 
-  -- the driver at c shares its net with control cell j
+  -- the driver at c shares its net with control cell j; the same for the control cells above k alone
   abbrev pub shares : ℕ → ℕ → ℕ → Bool
   shares k j c = keyed b ControlCell k c && drives b j (netOf (b .cell c))
 
-  pub shares-control : (k j c : ℕ) → shares k j c ≡ true → keyed b ControlCell k c ≡ true
-  shares-control k j c h = left (keyed b ControlCell k c) _ h
+  abbrev pub sharesAbove : ℕ → ℕ → ℕ → Bool
+  sharesAbove k j c = shares k j c && ltb k j
 
-  pub sharers-grown : (k c : ℕ) (f : ℕ → Bool) → keyed b ControlCell k c ≡ true → (j : ℕ) → withSharers b c f j ≡ (shares k j c || f j)
+  pub shares-control : (k j c : ℕ) → sharesAbove k j c ≡ true → keyed b ControlCell k c ≡ true
+  shares-control k j c h = left (keyed b ControlCell k c) _ (left (shares k j c) _ h)
+
+  pub sharers-grown : (k c : ℕ) (f : ℕ → Bool) → keyed b ControlCell k c ≡ true → (j : ℕ) → withSharers b k c f j ≡ (sharesAbove k j c || f j)
   unfolding withSharers
   sharers-grown k c f h j = rw (h, left (controlled b c) _ (sym (keyed-control b k c) ∙ h))
+
+-- some number passes and x holds, where x does not speak of the number
+any-both : (n : ℕ) (p : ℕ → Bool) (x : Bool) → any n (λ c. p c && x) ≡ (any n p && x)
+any-both n p x =
+    same-test _ _
+    (λ t. let m = any-member _ _ t in both (any-at n p (m .1) (left (p (m .0)) _ (m .2))) (right (p (m .0)) (m .2)))
+    (λ t. let m = any-member n p (left (any n p) _ t) in any-at _ _ (m .1) (both (m .2) (right (any n p) t)))
 
 -- all of a chain
 pub all-nets : (file : List ℕ) (k : ℕ) (s : ℕ → Bool) → ((m : ℕ) → s m ≡ (nothing m || any (cellsOf file) (brings (boardOf file) k m))) → s ≡ drives (boardOf file) k
 unfolding drives boardOf
 all-nets file k s h = fun-ext h
 
-pub all-controls : (file : List ℕ) (n : ℕ) (f s : ℕ → Bool) → ((j : ℕ) → s j ≡ (f j || any (cellsOf file) (brings (boardOf file) j n))) → s ≡ withControls (boardOf file) n f
+pub all-controls : (file : List ℕ) (low n : ℕ) (f s : ℕ → Bool) → ((j : ℕ) → s j ≡ (f j || any (cellsOf file) (bringsAbove (boardOf file) low n j))) → s ≡ withControls (boardOf file) low n f
 unfolding withControls drives boardOf
-all-controls file n f s h = fun-ext (λ j. h j ∙ or-comm (f j) _)
+all-controls file low n f s h =
+    fun-ext (λ j. h j ∙ or-comm (f j) _ ∙ ap (λ (x : Bool). x || f j) (any-both (cellsOf file) (brings (boardOf file) j n) (ltb low j)))
 
 -- a driver's own net is in its control cell's set
 own-net : (b : Board) (k c : ℕ) → c < b .size → keyed b ControlCell k c ≡ true → drives b k (netOf (b .cell c)) ≡ true
@@ -87,10 +110,22 @@ module _ (b : Board) (known : (c : ℕ) → c < b .size → controlled b c ≡ t
       let at = eqb-true (netOf (b .cell (c .0))) (n .0) (left (onNet b (n .0) (c .0)) _ (c .2)) in
       any-at _ _ (c .1) (both on (rw at (n .3)))
 
-pub all-sharers : (file : List ℕ) → judge (fileChecks file) ≡ Accepted → (k : ℕ) (s : ℕ → Bool) → ((j : ℕ) → s j ≡ (nothing j || any (cellsOf file) (shares (boardOf file) k j))) → s ≡ meets (boardOf file) k
-unfolding boardOf
+pub all-sharers : (file : List ℕ) → judge (fileChecks file) ≡ Accepted → (k : ℕ) (s : ℕ → Bool) → ((j : ℕ) → s j ≡ (nothing j || any (cellsOf file) (sharesAbove (boardOf file) k j))) → s ≡ partnersOf (boardOf file) k
+unfolding boardOf partnersOf
 all-sharers file ok k s h =
-    fun-ext (λ j. h j ∙ same-test _ _ (shares-meets (boardOf file) known k j) (meets-shares (boardOf file) known k j))
+    fun-ext (λ j. h j ∙ any-both (cellsOf file) (shares (boardOf file) k j) (ltb k j) ∙ ap (λ (x : Bool). x && ltb k j) (same-test _ _ (shares-meets (boardOf file) known k j) (meets-shares (boardOf file) known k j)))
   where
     known : (c : ℕ) → c < cellsOf file → controlled (boardOf file) c ≡ true → netOf (boardOf file .cell c) < netsOf file
     known c l x = kept-net file (whole-records file ok) c l (or-left _ x)
+
+-- the net of a driver on a chain fits a set of nets
+pub chained-net : (file : List ℕ) → judge (fileChecks file) ≡ Accepted → (k c : ℕ) → c < cellsOf file → keyed (boardOf file) ControlCell k c ≡ true → netOf (boardOf file .cell c) < 64 * netWords
+unfolding boardOf
+chained-net file ok k c l h =
+    let on = sym (keyed-control (boardOf file) k c) ∙ h in
+    let b = kept-net file (whole-records file ok) c l (or-left _ (left (controlled (boardOf file) c) _ on)) in
+    let f = laid file (shaped file ok) .nets .few in
+    omega arith
+
+pub keyed-controlled : (b : Board) (k c : ℕ) → keyed b ControlCell k c ≡ true → controlled b c ≡ true
+keyed-controlled b k c h = left (controlled b c) _ (sym (keyed-control b k c) ∙ h)

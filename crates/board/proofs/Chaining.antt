@@ -54,6 +54,16 @@ last-member (suc n) p c e = go (p n) refl e (last-member n p c)
     go true h q r = let s : n ≡ c = omega arith in rw s at h
     go false h q r = r q
 
+-- and nothing above it does
+pub last-above : (n : ℕ) (p : ℕ → Bool) (c : ℕ) → last n p ≤ c → c < n → p c ≡ false
+unfolding last
+last-above zero p c l m = absurd (omega arith)
+last-above (suc n) p c l m = go (p n) refl l (last-above n p c)
+  where
+    go : (a : Bool) → p n ≡ a → cond a (suc n) (last n p) ≤ c → (last n p ≤ c → c < n → p c ≡ false) → p c ≡ false
+    go true e h r = absurd (omega arith)
+    go false e h r = ⊎-elim (λ (q : c ≡ n). rw q e) (λ (q : c < n). r h q) (below-suc m)
+
 -- for a test that passes only where p does, some number below n is some number below the last
 pub any-last : (n : ℕ) (p q : ℕ → Bool) → ((c : ℕ) → c < n → q c ≡ true → p c ≡ true) → any n q ≡ any (last n p) q
 unfolding last any

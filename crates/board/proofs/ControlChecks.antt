@@ -22,6 +22,7 @@ use Rattle.words.specs.Sets.{netWords, cellWords, member, meetsIn, insideIn, li
 use Rattle.words.proofs.Bounds.{meets-bound, inside-bound}
 use Rattle.board.specs.declared.chains.By.the-variants.{ControlCell}
 use Rattle.board.specs.Chains.{keyed}
+use Rattle.board.specs.Sharing.{partnersOf}
 use Rattle.board.specs.Controls.{isCrossing, driversAt}
 use Rattle.board.proofs.Chaining.{keyed-control}
 
@@ -63,10 +64,10 @@ module _ (file : List ℕ) (ok : judge (fileChecks file) ≡ Accepted) where
   unfolding boardOf
   known c l x = (kept-net file (whole-records file ok) c l (or-left _ x), kept-control file (whole-records file ok) c l x .1)
 
-  past : (k i : ℕ) → netsOf file ≤ i → drives (boardOf file) k i ≡ false
+  pub past : (k i : ℕ) → netsOf file ≤ i → drives (boardOf file) k i ≡ false
   past k i l = fails-if _ (λ t. let b = drives-low k i t in omega arith)
 
-  nets-fit : netsOf file ≤ 64 * netWords
+  pub nets-fit : netsOf file ≤ 64 * netWords
   nets-fit = let f = laid file (shaped file ok) .nets .few in omega arith
 
   crossing-sets : (i j : ℕ) → isCrossing (lieOf (64 * netWords) (drives (boardOf file) i) (drives (boardOf file) j)) ≡ (meets (boardOf file) i j && not (inside (boardOf file) i j) && not (inside (boardOf file) j i))
@@ -99,26 +100,26 @@ module _ (file : List ℕ) (ok : judge (fileChecks file) ≡ Accepted) where
           let cc3 = left (isControl (boardOf file) i && isControl (boardOf file) j && meets (boardOf file) i j) _ cc4 in
           both (both (right (isControl (boardOf file) i && isControl (boardOf file) j) cc3) (right (isControl (boardOf file) i && isControl (boardOf file) j && meets (boardOf file) i j) cc4)) (right (isControl (boardOf file) i && isControl (boardOf file) j && meets (boardOf file) i j && not (inside (boardOf file) i j)) t)
 
-  unmet : (i x : ℕ) (met : ℕ → Bool) → met ≡ meets (boardOf file) i → met x ≡ false → crosses (boardOf file) i x ≡ false
-  unfolding crosses
-  unmet i x met e f =
-      let m : meets (boardOf file) i x ≡ false = ap (λ (g : ℕ → Bool). g x) (sym e) ∙ f in
+  unmet : (i x : ℕ) (met : ℕ → Bool) → met ≡ partnersOf (boardOf file) i → i < x → met x ≡ false → crosses (boardOf file) i x ≡ false
+  unfolding crosses partnersOf
+  unmet i x met e l f =
+      let m : meets (boardOf file) i x ≡ false = fails-if _ (λ t. clashes (both t (lt-ltb i x l)) (ap (λ (g : ℕ → Bool). g x) (sym e) ∙ f)) in
       fails-if _ (λ t. clashes (right (isControl (boardOf file) i && isControl (boardOf file) x) (left (isControl (boardOf file) i && isControl (boardOf file) x && meets (boardOf file) i x) _ (left (isControl (boardOf file) i && isControl (boardOf file) x && meets (boardOf file) i x && not (inside (boardOf file) i x)) _ t))) m)
 
-  pub search-from : (i next : ℕ) (met : ℕ → Bool) → met ≡ meets (boardOf file) i → i + 1 ≤ 64 * cellWords → next ≡ seek met (64 * cellWords - (i + 1)) (i + 1) → Uncrossed (boardOf file) i next
+  pub search-from : (i next : ℕ) (met : ℕ → Bool) → met ≡ partnersOf (boardOf file) i → i + 1 ≤ 64 * cellWords → next ≡ seek met (64 * cellWords - (i + 1)) (i + 1) → Uncrossed (boardOf file) i next
   search-from i next met e l h =
       let s = seek-lowest met l in
       let a = s .above in
       let u = s .under in
-      record { higher = omega arith; low = omega arith; none = λ x y z. unmet i x met e (s .lower x (omega arith) (omega arith)) }
+      record { higher = omega arith; low = omega arith; none = λ x y z. unmet i x met e y (s .lower x (omega arith) (omega arith)) }
 
-  pub search-on : (i j next : ℕ) (met : ℕ → Bool) → met ≡ meets (boardOf file) i → Uncrossed (boardOf file) i j → j < 64 * cellWords → crosses (boardOf file) i j ≡ false → next ≡ seek met (64 * cellWords - (j + 1)) (j + 1) → (j < next) × Uncrossed (boardOf file) i next
+  pub search-on : (i j next : ℕ) (met : ℕ → Bool) → met ≡ partnersOf (boardOf file) i → Uncrossed (boardOf file) i j → j < 64 * cellWords → crosses (boardOf file) i j ≡ false → next ≡ seek met (64 * cellWords - (j + 1)) (j + 1) → (j < next) × Uncrossed (boardOf file) i next
   search-on i j next met e v l f h =
       let s = seek-lowest met {from = j + 1} {to = 64 * cellWords} (omega arith) in
       let a = s .above in
       let u = s .under in
       let w = v .higher in
-      (omega arith, record { higher = omega arith; low = omega arith; none = λ x y z. ⊎-elim (λ (q : x < j). v .none x y q) (λ (q : j ≤ x). ⊎-elim (λ (r : j < x). unmet i x met e (s .lower x (omega arith) (omega arith))) (λ (r : x ≤ j). let t : x ≡ j = omega arith in rw t f) (order j x)) (order x j) })
+      (omega arith, record { higher = omega arith; low = omega arith; none = λ x y z. ⊎-elim (λ (q : x < j). v .none x y q) (λ (q : j ≤ x). ⊎-elim (λ (r : j < x). unmet i x met e y (s .lower x (omega arith) (omega arith))) (λ (r : x ≤ j). let t : x ≡ j = omega arith in rw t f) (order j x)) (order x j) })
 
   pub search-found : (i j : ℕ) → Uncrossed (boardOf file) i j → j < cellsOf file → crosses (boardOf file) i j ≡ true → true ≡ crossed (boardOf file) i
   unfolding crossed boardOf

@@ -4,22 +4,22 @@ use mathlib.Core.Path.{_≡_, refl, sym, _∙_, ap, fun-ext}
 use mathlib.Core.Bool.{Bool, true, false, _&&_, _||_, false≢true}
 use mathlib.Core.List.{List}
 use native.Mathlib.Omega.{arith}
-use borrow.Author.Tests.{eqb-true, eq-eqb}
-use lib.Dec.{eqb}
+use borrow.Author.Tests.{eqb-true, eq-eqb, lt-ltb, ltb-true}
+use lib.Dec.{eqb, ltb}
 use Rattle.rules.specs.File.{Board, boardOf, cellsOf, netsOf, netOf}
 use Rattle.rules.specs.Drivers.{controlled, controlFor, driverOf, drives}
 use Rattle.rules.specs.declared.Cell.{Cell}
 use Rattle.rules.specs.declared.Position.{Position}
 use Rattle.rules.specs.declared.Net.{Net}
-use Rattle.rules.proofs.Tests.{same-test}
+use Rattle.rules.proofs.Tests.{left, right, both, fails-if, same-test}
 use Rattle.rules.proofs.Shape.{laid, shaped}
 use Rattle.words.specs.Sets.{netWords, cellWords, plus}
 use Rattle.board.specs.Driving.{driverIn}
 use Rattle.board.specs.Whole.{Whole}
-use Rattle.board.specs.Sharing.{withNet, withControl, withSharers, withControls}
+use Rattle.board.specs.Sharing.{withControl, withSharers, withControls}
 use Rattle.board.specs.declared.drivers.Driver.{Driver}
 use Rattle.board.specs.declared.drivers.Driver.the-variants.{Of, Nothing}
-use Rattle.board.proofs.Drives.{is-driver, no-driver, driver-on, driver-off, net-below, control-below}
+use Rattle.board.proofs.Drives.{is-driver, no-driver, net-below, control-below}
 
 pub eqb-back : (a b : ℕ) → eqb a b ≡ eqb b a
 eqb-back a b =
@@ -32,31 +32,32 @@ driver-is cell cell′ found driver e f d = cc
 module _ (b : Board) (c : ℕ) (f : ℕ → Bool) where
   -- a cell that drives nothing brings nothing
   module _ (e : driverIn (b .cell c) ≡ Nothing) where
-    pub no-net : f ≡ withNet b c f
-    unfolding withNet
-    no-net = fun-ext (λ m. rw (driver-off b c e m))
-
-    pub no-control : f ≡ withControl b c f
+    pub no-control : (low : ℕ) → f ≡ withControl b low c f
     unfolding withControl
-    no-control = fun-ext (λ j. rw (no-driver b c e))
+    no-control low = fun-ext (λ j. rw (no-driver b c e))
 
-    pub no-sharers : f ≡ withSharers b c f
+    pub no-sharers : (low : ℕ) → f ≡ withSharers b low c f
     unfolding withSharers
-    no-sharers = fun-ext (λ j. rw (no-driver b c e))
+    no-sharers low = fun-ext (λ j. rw (no-driver b c e))
 
   -- a driver brings its net, its control cell, and its net's control cells
   module _ (k : Position) (n : Net) (e : driverIn (b .cell c) ≡ Of k n) where
-    pub one-net : plus f (n .0) ≡ withNet b c f
-    unfolding withNet
-    one-net = fun-ext (λ m. rw (driver-on b c k n e m, eqb-back m (n .0)))
-
-    pub one-control : plus f (k .0) ≡ withControl b c f
+    -- its control cell, where that is above low
+    control-at : (low j : ℕ) → withControl b low c f j ≡ (eqb (k .0) j && ltb low j || f j)
     unfolding withControl
-    one-control = fun-ext (λ j. rw (is-driver b c k n e .0, is-driver b c k n e .1, eqb-back j (k .0)))
+    control-at low j = rw (is-driver b c k n e .0, is-driver b c k n e .1)
 
-    pub its-sharers : withControls b (n .0) f ≡ withSharers b c f
+    pub one-control : (low : ℕ) → low < k .0 → plus f (k .0) ≡ withControl b low c f
+    one-control low l =
+        fun-ext (λ j. ap (λ (x : Bool). x || f j) (eqb-back j (k .0) ∙ same-test (eqb (k .0) j) (eqb (k .0) j && ltb low j) (λ t. both t (ap (ltb low) (sym (eqb-true (k .0) j t)) ∙ lt-ltb low (k .0) l)) (λ t. left (eqb (k .0) j) _ t)) ∙ sym (control-at low j))
+
+    pub low-control : (low : ℕ) → k .0 ≤ low → f ≡ withControl b low c f
+    low-control low l =
+        fun-ext (λ j. ap (λ (x : Bool). x || f j) (sym (fails-if _ (λ t. let s = eqb-true (k .0) j (left (eqb (k .0) j) _ t) in let m = ltb-true low j (right (eqb (k .0) j) t) in omega arith))) ∙ sym (control-at low j))
+
+    pub its-sharers : (low : ℕ) → withControls b low (n .0) f ≡ withSharers b low c f
     unfolding withSharers withControls
-    its-sharers = fun-ext (λ j. rw (is-driver b c k n e .0, is-driver b c k n e .2))
+    its-sharers low = fun-ext (λ j. rw (is-driver b c k n e .0, is-driver b c k n e .2))
 
 -- on a whole file they fit
 module _ (file : List ℕ) (c : ℕ) (w : Whole file c) (k : Position) (n : Net) (e : driverIn (boardOf file .cell c) ≡ Of k n) where

@@ -8,6 +8,7 @@ use native.Mathlib.Omega.{arith}
 use lib.ListN.{length, getD}
 use Rattle.rules.specs.Basics.{any}
 use Rattle.rules.specs.File.{boardOf, cellsOf, netsOf}
+use Rattle.rules.proofs.Tests.{any-none}
 use Rattle.board.specs.declared.chains.By.{By}
 use Rattle.board.specs.declared.chains.By.the-variants.{ControlCell, NetOf}
 use Rattle.board.specs.Chains.{keyed, keysOf, last, Chains}
@@ -62,3 +63,8 @@ module _ (file : List ℕ) (by : By) (heads links : List ℕ) (chains : Chains f
 
     pub missed : (n at : ℕ) → Walk n at → at ≤ 0 → any n q ≡ false
     missed n at w z = let e : at ≡ 0 = omega arith in walk-ended _ q only n (rw e at w)
+
+  -- a head that is none: no position has the key
+  pub none-keyed : (k : ℕ) → k < length heads → getD heads k 0 ≡ 0 → (c : ℕ) → c < cellsOf file → keyed (boardOf file) by k c ≡ false
+  none-keyed k l z c m =
+      any-none _ _ (missed k (keyed (boardOf file) by k) (λ d h. h) (cellsOf file) 0 (from-head k (keyed (boardOf file) by k) (λ d h. h) l 0 (sym z)) (omega arith)) m

@@ -6,7 +6,7 @@ use mathlib.Core.List.{List}
 use lib.Dec.{eqb}
 use lib.ListN.{length, getD}
 use Rattle.rules.specs.Basics.{count}
-use Rattle.rules.specs.File.{Board, boardOf, netsOf}
+use Rattle.rules.specs.File.{Board, boardOf, netsOf, none}
 use Rattle.rules.specs.Drivers.{driverOf, outputOf}
 use Rattle.rules.specs.Refusals.{judge, fileChecks}
 use Rattle.rules.specs.declared.Cell.{Cell}
@@ -22,6 +22,11 @@ driverIn (Input n) = Nothing
 driverIn (Control on) = Nothing
 driverIn (ThreeState k n) = Of k n
 driverIn (TwoState n) = Nothing
+
+-- the control cell of a driver; "65,535 means none"
+unfoldable pub controlIn : Driver → ℕ
+controlIn (Of k n) = k .0
+controlIn Nothing = none
 
 -- two outputs of one net: one of them is always on, or both are of one control cell
 unfoldable pub conflictOf : Driver → Driver → Bool

@@ -5,7 +5,7 @@ ghost use mathlib.Core.List.{_∷_, []};
 ghost use Rattle.rules.specs.File.{recordAt, ofKind2, recordOf, brokenAt, boardOf, cellsOf};
 ghost use Rattle.rules.specs.Refusals.{judge, each};
 ghost use Rattle.rules.specs.File as File;
-ghost use Rattle.rules.specs.File.{tableOf};
+ghost use Rattle.rules.specs.File.{tableOf, netOf};
 ghost use mathlib.Core.Bool.{_&&_};
 ghost use Rattle.board.specs.Whole.{Shaped, Sized, Whole};
 use blocks::BLOCK_RECORDS;
@@ -21,12 +21,17 @@ use rules::Verdict;
 // "65,535 means none"
 const NONE: u16 = 65535;
 
-// Where the record of position p begins.
+// Where the record of position 0 begins, and the bytes of a block that are not of its 84 records.
+const FIRST_RECORD: usize = BLOCK_SIZE + HEAD_SIZE;
+
+const SPARE_BYTES: usize = BLOCK_SIZE - RECORD_SIZE * BLOCK_RECORDS;
+
+// Where the record of position p begins: records follow each other, but for the spare bytes of the blocks between.
 fn record_start(p: usize) -> usize
     requires { ⌜ p ≤ 65535 ⌝ }
     ensures { λ r. ⌜ r ≡ recordAt p ⌝ }
 {
-    BLOCK_SIZE * (1 + p / BLOCK_RECORDS) + HEAD_SIZE + RECORD_SIZE * (p % BLOCK_RECORDS)
+    FIRST_RECORD + RECORD_SIZE * p + SPARE_BYTES * (p / BLOCK_RECORDS)
 }
 
 // k is the position of a kind 2 cell.
@@ -145,4 +150,12 @@ pub fn cell_at(file: &[u8], p: usize) -> Cell
         4 => Cell::TwoState(Net(blocks::pair(file, at + 4))),
         _ => Cell::Internal,
     }
+}
+
+// The net at position p of a whole file, or 65,535: what a walk along drivers needs of their records.
+pub fn net_at(file: &[u8], p: usize) -> usize
+    requires { ⌜ Whole (now file) p ⌝ }
+    ensures { λ r. ⌜ r ≡ netOf (boardOf (now (file .entry)) .cell p) ⌝ }
+{
+    blocks::pair(file, record_start(p) + 4) as usize
 }

@@ -65,7 +65,7 @@ fn key_of(cell: Cell, by: By) -> Key
 }
 
 // The chains of the positions below c, grown by c.
-fn link(file: &[u8], by: By, c: usize, heads: &mut [u16], links: &mut [u16])
+pub fn link(file: &[u8], by: By, c: usize, heads: &mut [u16], links: &mut [u16])
     requires { ⌜ Grown (now file) by c (now heads) (now links) ⌝ }
     requires { ⌜ c < cellsOf (now file) ⌝ }
     ensures { λ r. ⌜ Grown (now (file .entry)) by (c + 1) (now (heads .exit)) (now (links .exit)) ⌝ }
@@ -77,17 +77,4 @@ fn link(file: &[u8], by: By, c: usize, heads: &mut [u16], links: &mut [u16])
     };
     links[c] = heads[k];
     heads[k] = (c + 1) as u16;
-}
-
-// All chains of a whole file, in tables whose heads are none yet.
-pub fn fill(file: &[u8], by: By, cells: usize, heads: &mut [u16], links: &mut [u16])
-    requires { ⌜ Grown (now file) by 0 (now heads) (now links) ⌝ }
-    requires { ⌜ cells ≡ cellsOf (now file) ⌝ }
-    ensures { λ r. ⌜ Grown (now (file .entry)) by cells (now (heads .exit)) (now (links .exit)) ⌝ }
-{
-    let mut c = 0;
-    while c < cells {
-        link(file, by, c, heads, links);
-        c += 1;
-    }
 }

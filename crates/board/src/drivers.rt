@@ -43,7 +43,7 @@ pub fn conflict(a: Cell, b: Cell) -> bool
 }
 
 // The counts of the positions below c, grown by c.
-fn count_in(file: &[u8], c: usize, counts: &mut [u16])
+pub fn count_in(file: &[u8], c: usize, counts: &mut [u16])
     requires { ⌜ Counted (now file) c (now counts) ⌝ }
     requires { ⌜ c < cellsOf (now file) ⌝ }
     ensures { λ r. ⌜ Counted (now (file .entry)) (c + 1) (now (counts .exit)) ⌝ }
@@ -54,17 +54,4 @@ fn count_in(file: &[u8], c: usize, counts: &mut [u16])
     };
     let n = net.0 as usize;
     counts[n] = counts[n] + 1;
-}
-
-// The number of controlled drivers of each net, in a table that holds none yet.
-pub fn count_drivers(file: &[u8], cells: usize, counts: &mut [u16])
-    requires { ⌜ Counted (now file) 0 (now counts) ⌝ }
-    requires { ⌜ cells ≡ cellsOf (now file) ⌝ }
-    ensures { λ r. ⌜ Counted (now (file .entry)) cells (now (counts .exit)) ⌝ }
-{
-    let mut c = 0;
-    while c < cells {
-        count_in(file, c, counts);
-        c += 1;
-    }
 }

@@ -1,6 +1,6 @@
 // Refusals 7 to 9: every net has an output, no two of its outputs clash, and it is not crowded.
 ghost use mathlib.Core.Path.{_≡_};
-ghost use mathlib.Core.Bool.{true};
+ghost use mathlib.Core.Bool.{true, false};
 ghost use mathlib.Core.List.{_∷_, []};
 ghost use Prim.Native.Nat.{ℕ, _<_, _≤_};
 ghost use lib.ListN.{length};
@@ -9,11 +9,14 @@ ghost use Rattle.rules.specs.File.{boardOf, cellsOf, netsOf};
 ghost use Rattle.rules.specs.Refusals.{judge, each, clashing, netChecks};
 ghost use Rattle.board.specs.declared.chains.By.the-variants.{NetOf};
 ghost use Rattle.board.specs.Chains.{keyed, Chains};
-ghost use Rattle.board.specs.Driving.{conflictAt, Counted};
+ghost use Rattle.board.specs.Driving.{driverIn, controlIn, conflictAt, Counted};
 ghost use Rattle.board.specs.Nets.{outside, outsideAt, Checkable};
+ghost use Rattle.board.specs.Whole.{Whole};
 use crate::cells::cell_at;
 use crate::chains::held;
+use crate::drivers::Driver;
 use crate::drivers::conflict;
+use crate::drivers::driver_of;
 use rules::Verdict;
 
 // "at most 16 controlled drivers on a net"
@@ -21,6 +24,9 @@ const MOST_DRIVERS: u16 = 16;
 
 // The largest entry that a table can hold.
 const HIGHEST: u16 = 65535;
+
+// "65,535 means none": it is above each position.
+const NO_CONTROL: usize = 65535;
 
 // An entry lies outside low to high.
 fn outside(entry: u16, low: u16, high: u16) -> bool
@@ -66,7 +72,7 @@ fn clash_below(file: &[u8], heads: &[u16], links: &[u16], c: usize) -> bool
     false
 }
 
-// Two outputs of net n clash.
+// Two outputs of net n clash, by each pair.
 fn clashes(file: &[u8], heads: &[u16], links: &[u16], n: usize) -> bool
     requires { ⌜ Chains (now file) NetOf (now heads) (now links) ⌝ }
     requires { ⌜ n < netsOf (now file) ⌝ }
@@ -83,6 +89,50 @@ fn clashes(file: &[u8], heads: &[u16], links: &[u16], n: usize) -> bool
     false
 }
 
+// The control cell of the driver at c, or NO_CONTROL.
+fn control_of(file: &[u8], c: usize) -> usize
+    requires { ⌜ Whole (now file) c ⌝ }
+    ensures { λ r. ⌜ r ≡ controlIn (driverIn (boardOf (now (file .entry)) .cell c)) ⌝ }
+{
+    let driver = driver_of(cell_at(file, c));
+    let Driver::Of(k, _) = driver else {
+        return NO_CONTROL;
+    };
+    k.0 as usize
+}
+
+// A quick test: from the highest output of net n down, each is a driver whose control cell is below
+// the last one's.
+fn falls(file: &[u8], heads: &[u16], links: &[u16], n: usize) -> bool
+    requires { ⌜ Chains (now file) NetOf (now heads) (now links) ⌝ }
+    requires { ⌜ n < netsOf (now file) ⌝ }
+    ensures { λ r. ⌜ (r ≡ true → clashing (boardOf (now (file .entry))) n ≡ false) ⌝ }
+{
+    let mut last = NO_CONTROL;
+    let mut at = held(heads, n);
+    while 0 < at {
+        let k = control_of(file, at - 1);
+        if last <= k {
+            return false;
+        }
+        last = k;
+        at = held(links, at - 1);
+    }
+    true
+}
+
+// Two outputs of net n clash: only where the quick test fails is each pair looked at.
+fn net_clashes(file: &[u8], heads: &[u16], links: &[u16], n: usize) -> bool
+    requires { ⌜ Chains (now file) NetOf (now heads) (now links) ⌝ }
+    requires { ⌜ n < netsOf (now file) ⌝ }
+    ensures { λ r. ⌜ r ≡ clashing (boardOf (now (file .entry))) n ⌝ }
+{
+    if falls(file, heads, links, n) {
+        return false;
+    }
+    clashes(file, heads, links, n)
+}
+
 // Refusal 8: a net two of whose outputs clash.
 fn clash_verdict(file: &[u8], heads: &[u16], links: &[u16], nets: usize) -> Verdict
     requires { ⌜ Chains (now file) NetOf (now heads) (now links) ⌝ }
@@ -91,7 +141,7 @@ fn clash_verdict(file: &[u8], heads: &[u16], links: &[u16], nets: usize) -> Verd
 {
     let mut n = 0;
     while n < nets {
-        if clashes(file, heads, links, n) {
+        if net_clashes(file, heads, links, n) {
             return blocks::refuse(8, n);
         }
         n += 1;

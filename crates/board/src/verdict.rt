@@ -7,10 +7,10 @@ ghost use Rattle.rules.specs.declared.Verdict.the-variants.{Accepted};
 ghost use Rattle.board.specs.Verdict.{Blank, Fillable, Filled, Judgeable};
 use crate::cells::records_verdict;
 use crate::chains::By;
-use crate::chains::fill;
+use crate::chains::link;
 use crate::controls::crossed_verdict;
 use crate::controls::unequal_verdict;
-use crate::drivers::count_drivers;
+use crate::drivers::count_in;
 use crate::nets::nets_verdict;
 use blocks::MOST_CELLS;
 use blocks::MOST_NETS;
@@ -83,9 +83,13 @@ fn fill_tables(
     requires { ⌜ Fillable (now file) cells (now heads) (now links) (now «net_heads») (now «net_links») (now counts) ⌝ }
     ensures { λ r. ⌜ Filled (now (file .entry)) (now (heads .exit)) (now (links .exit)) (now («net_heads» .exit)) (now («net_links» .exit)) (now (counts .exit)) ⌝ }
 {
-    fill(file, By::ControlCell, cells, heads, links);
-    fill(file, By::NetOf, cells, net_heads, net_links);
-    count_drivers(file, cells, counts);
+    let mut c = 0;
+    while c < cells {
+        link(file, By::ControlCell, c, heads, links);
+        link(file, By::NetOf, c, net_heads, net_links);
+        count_in(file, c, counts);
+        c += 1;
+    }
 }
 
 // Refusals 1 to 11, with the tables of an accepted board left in the lent ones, which hold nothing yet.

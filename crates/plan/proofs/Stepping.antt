@@ -1,22 +1,22 @@
 -- A plan's steps, part by part: part i is base vector i with those inserted after it, and `start` is where it starts.
-use Prim.Native.Nat.{ℕ, zero, suc, _+_, _*_, _-_, _/_, _%_, _≤_, _<_}
+use Prim.Native.Nat.{ℕ, zero, suc, _+_, _*_, _-_, _≤_, _<_}
 use mathlib.Core.Path.{_≡_, refl, sym, _∙_, ap}
-use mathlib.Core.Logic.{_⊎_, inl, inr, ⊎-elim}
-use mathlib.Core.Bool.{Bool, true, false, cond, xor}
+use mathlib.Core.Logic.{⊎-elim}
+use mathlib.Core.Bool.{Bool, false, xor}
 use mathlib.Core.List.{_∷_}
-use native.Mathlib.Nat.{le-trans, mul-le-mul-left, mul-le-mul-right, eq-or-lt-of-le, eq-zero-or-pos, mul-one}
+use native.Mathlib.Nat.{le-trans, mul-le-mul-left, mul-le-mul-right, eq-zero-or-pos, mul-one}
 use native.Mathlib.Numerals.{add-one}
 use native.Mathlib.Omega.{arith}
 use borrow.Author.Tests.{lt-ltb, le-ltb}
 use lib.ListN.{length, getD}
 use Rattle.rules.specs.Basics.{count, ceil}
-use Rattle.rules.specs.Vectors.{Bases, differs, changes, insertedAfter, between, weave, stepsOf}
+use Rattle.rules.specs.Vectors.{differs, changes, insertedAfter, between, weave, stepsOf}
 use Rattle.rules.specs.declared.Step.the-variants.{Base, Inserted}
-use Rattle.rules.proofs.Tests.{count-le, count-none, order}
+use Rattle.rules.proofs.Tests.{count-le, order}
 use Rattle.rules.proofs.Digits.{length-table, table-at, ceil-tight, ceil-zero}
-use Rattle.rules.proofs.Weaving.{weave-length, weave-grows, weave-at}
+use Rattle.rules.proofs.Weaving.{weave-length, weave-at}
 use Rattle.words.specs.Sets.{netWords, upTo}
-use Rattle.words.proofs.Bounds.{count-add}
+use Rattle.words.proofs.Bounds.{count-bound}
 use Rattle.plan.specs.declared.steps.Plan.{Plan}
 use Rattle.plan.specs.Plans.{basesFor, Small}
 
@@ -31,15 +31,9 @@ pub size-some : (p : Plan) → Small p → 1 ≤ size p
 size-some p s = le-trans (mul-le-mul-right 1 (s .turns)) (mul-le-mul-left (p .groups) (s .coded))
 
 -- what differs lies below N, so a count over all members of a set counts it
-count-cut : (n m : ℕ) (f : ℕ → Bool) → n ≤ m → ((i : ℕ) → n ≤ i → f i ≡ false) → count m f ≡ count n f
-count-cut n m f h none =
-    let e : m ≡ n + (m - n) = omega arith in
-    let rest = count-none (m - n) (λ i. f (n + i)) (λ i l. none (n + i) (omega arith)) in
-    ap (λ (k : ℕ). count k f) e ∙ count-add n (m - n) f ∙ rw rest (omega arith)
-
 pub changes-all : (p : Plan) → Small p → (i : ℕ) → count (64 * netWords) (differs (basesFor p) i) ≡ changes (basesFor p) i
 unfolding changes differs basesFor upTo xor
-changes-all p s i = count-cut (p .nets) (64 * netWords) _ (s .nets) (λ m h. rw (le-ltb m (p .nets) h) refl)
+changes-all p s i = count-bound _ (s .nets) (λ m h l. rw (le-ltb m (p .nets) h) refl)
 
 pub changes-low : (p : Plan) → Small p → (i : ℕ) → changes (basesFor p) i ≤ 64 * netWords
 unfolding changes basesFor
@@ -54,7 +48,7 @@ pub extra-none : (p : Plan) (i : ℕ) → size p ≤ i + 1 → 0 ≡ insertedAft
 unfolding insertedAfter basesFor
 extra-none p i l = rw (le-ltb (i + 1) (size p) l) refl
 
-ceil-low : (h s : ℕ) → 1 ≤ s → ceil h s - 1 ≤ h
+pub ceil-low : (h s : ℕ) → 1 ≤ s → ceil h s - 1 ≤ h
 ceil-low h s p = ⊎-elim none some (eq-zero-or-pos h)
   where
     none : h ≡ 0 → ceil h s - 1 ≤ h
@@ -81,7 +75,7 @@ pub start-zero : (p : Plan) → start p 0 ≡ 0
 unfolding weave
 start-zero p = refl
 
-part-length : (p : Plan) (i : ℕ) → length (between (basesFor p) i) ≡ insertedAfter (basesFor p) i
+pub part-length : (p : Plan) (i : ℕ) → length (between (basesFor p) i) ≡ insertedAfter (basesFor p) i
 unfolding between
 part-length p i = length-table (insertedAfter (basesFor p) i) (λ t. Inserted i (t + 1))
 
@@ -92,13 +86,6 @@ start-next p i = rw (add-one i, weave-length Base (between (basesFor p)) i, part
 pub start-end : (p : Plan) → start p (size p) ≡ length (stepsOf (basesFor p))
 unfolding stepsOf basesFor
 start-end p = refl
-
--- past part i of a step there is a next part
-pub step-on : (p : Plan) (t i left : ℕ) → t < length (stepsOf (basesFor p)) → i < size p → start p i + left ≡ t → insertedAfter (basesFor p) i < left → i + 1 < size p
-step-on p t i left h l e m = ⊎-elim ended (λ (q : i + 1 < size p). q) (eq-or-lt-of-le (let q : i + 1 ≤ size p = omega arith in q))
-  where
-    ended : i + 1 ≡ size p → i + 1 < size p
-    ended q = absurd (let a = start-next p i in let b = start-end p in let f = ap (start p) q in omega arith)
 
 -- in part i stands the base vector, then those inserted after it
 step-in : (p : Plan) (i left : ℕ) → i < size p → left ≤ insertedAfter (basesFor p) i → getD (stepsOf (basesFor p)) (start p i + left) (Base 0) ≡ getD (Base i ∷ between (basesFor p) i) left (Base 0)

@@ -1,11 +1,24 @@
 // Net codes: their width, and one pattern of them as the set of nets whose value is 1.
 ghost use mathlib.Core.Path.{_≡_};
-ghost use Prim.Native.Nat.{_<_, _≤_, _*_, _-_};
-ghost use Rattle.rules.specs.Basics.{ceil};
+ghost use mathlib.Core.Bool.{cond, _&&_};
+ghost use Prim.Native.Nat.{ℕ, _+_, _*_, _-_, _<_, _≤_};
+ghost use lib.Dec.{ltb};
+ghost use Rattle.rules.specs.Basics.{bit, ceil};
 ghost use Rattle.rules.specs.Vectors.{codeWidth, codeBit};
-ghost use Rattle.words.specs.Sets.{netWords, member, plusIf, upTo};
-use rules::Net;
+ghost use Rattle.words.specs.Sets.{netWords, member, upTo};
+ghost use Rattle.plan.specs.Plans.{WordOf};
+use words::NET_WORDS;
 use words::NetSet;
+
+// Digits 0 to 5 of the codes 1 to 64, a word each: the next 64 codes have the same, and so on.
+const LOW: [u64; 6] = [
+    0x5555555555555555,
+    0x6666666666666666,
+    0x7878787878787878,
+    0x7f807f807f807f80,
+    0x7fff80007fff8000,
+    0x7fffffff80000000,
+];
 
 // p, the number of binary digits of N + 1: "the least number with 2^p at least N + 2".
 pub fn width(nets: usize) -> usize
@@ -16,23 +29,46 @@ pub fn width(nets: usize) -> usize
     (64 - u64::leading_zeros(last)) as usize
 }
 
-// Net m's bit in pattern j + 1 of `wide`.
-fn code_bit(wide: usize, j: usize, m: usize) -> bool
-    requires { ⌜ (j < wide) × (wide ≤ 64) × (m < 64 * netWords) ⌝ }
-    ensures { λ r. ⌜ r ≡ codeBit wide j m ⌝ }
+// 63 digits of one value, and the highest of another.
+fn spread(low: bool, high: bool) -> u64
+    ensures { λ r. ⌜ ((k : ℕ) → k < 64 → bit r k ≡ cond (ltb k 63) low high) ⌝ }
 {
-    ((m + 1) >> (wide - (j + 1))) & 1 == 1
+    if low {
+        if high {
+            return 0xffffffffffffffff;
+        }
+        return 0x7fffffffffffffff;
+    }
+    if high {
+        return 0x8000000000000000;
+    }
+    0
 }
 
-// The set with net m besides, if its bit is 1.
-fn add_net(wide: usize, j: usize, m: usize, set: NetSet) -> NetSet
-    requires { ⌜ (j < wide) × (wide ≤ 64) × (m < 64 * netWords) ⌝ }
-    ensures { λ r. ⌜ member (r .words) ≡ plusIf (codeBit wide j) m (member (set .words)) ⌝ }
+// Pattern j + 1 of `wide` at the nets from 64 * w on: net 64 * w + k has code 64 * w + k + 1.
+fn code_word(wide: usize, j: usize, w: usize) -> u64
+    requires { ⌜ (j < wide) × (wide ≤ 64) × (w < netWords) ⌝ }
+    ensures { λ r. ⌜ WordOf (codeBit wide j) w r ⌝ }
 {
-    if code_bit(wide, j, m) {
-        return set.with(Net(m as u16));
+    let digit = wide - (j + 1);
+    if digit < 6 {
+        return LOW[digit];
     }
-    set
+    let low = (w >> (digit - 6)) & 1 == 1;
+    let high = ((w + 1) >> (digit - 6)) & 1 == 1;
+    spread(low, high)
+}
+
+// Those of a word's nets, from 64 * w on, that are below `nets`.
+fn cut(word: u64, w: usize, nets: usize) -> u64
+    requires { ⌜ (w < netWords) × (64 * w < nets) ⌝ }
+    ensures { λ r. ⌜ ((k : ℕ) → k < 64 → bit r k ≡ (ltb (64 * w + k) nets && bit word k)) ⌝ }
+{
+    let from = 64 * w;
+    if from + 64 <= nets {
+        return word;
+    }
+    ((1 << (nets - from)) - 1) & word
 }
 
 // Pattern j + 1 of `wide`: the nets below `nets` whose bit is 1.
@@ -40,13 +76,13 @@ pub fn pattern(nets: usize, wide: usize, j: usize) -> NetSet
     requires { ⌜ (j < wide) × (wide ≤ 64) × (nets ≤ 64 * netWords) ⌝ }
     ensures { λ r. ⌜ member (r .words) ≡ upTo nets (codeBit wide j) ⌝ }
 {
-    let mut set = NetSet::empty();
-    let mut m = 0;
-    while m < nets {
-        set = add_net(wide, j, m, set);
-        m += 1;
+    let mut words = [0; NET_WORDS];
+    let mut w = 0;
+    while 64 * w < nets {
+        words[w] = cut(code_word(wide, j, w), w, nets);
+        w += 1;
     }
-    set
+    NetSet { words }
 }
 
 // "ceil(h / SSOL) - 1 vectors are inserted (none for h = 0)".

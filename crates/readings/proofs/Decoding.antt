@@ -20,8 +20,8 @@ use Rattle.words.specs.Sets.{upTo}
 use Rattle.plan.specs.declared.steps.Plan.{Plan}
 use Rattle.plan.specs.Plans.{basesFor, Small}
 use Rattle.plan.proofs.Stepping.{size, start, step-base}
-use Rattle.readings.specs.Readings.{seenAt, valueAt, offAt, readBelow, lasting, startOf, codeFrom, Mapped, Entries, Captured, Read}
-use Rattle.readings.proofs.Lasting.{start-is, starts-next, part-below, lasting-low}
+use Rattle.readings.specs.Readings.{seenAt, valueAt, offAt, readBelow, startOf, codeFrom, Mapped, Entries, Captured}
+use Rattle.readings.proofs.Places.{start-is, starts-next, part-below}
 use Rattle.readings.proofs.Mapping.{mapped-same, mapped-then}
 
 -- the first group's base vectors are among all
@@ -89,7 +89,7 @@ module _ (p : Plan) (bytes : ℕ) (capture : List ℕ) (n c : ℕ) (bits : (j : 
       digits-from (p .wide) (omega arith) h ∙ ap (λ (k : ℕ). suc n / 2 ^ k) (let z : p .wide - p .wide ≡ 0 = omega arith in z) ∙ div-one (suc n)
 
 -- net n's value in base vector j of the first group is its code's bit
-first-value : (p : Plan) (j n : ℕ) → Small p → j < p .wide → n < p .nets → valueAt p (startOf p j) n ≡ codeBit (p .wide) j n
+pub first-value : (p : Plan) (j n : ℕ) → Small p → j < p .wide → n < p .nets → valueAt p (startOf p j) n ≡ codeBit (p .wide) j n
 unfolding valueAt vectorOf basesFor upTo
 first-value p j n s l m =
     ap (λ (x : Step). vectorOf (basesFor p) x .value n) (sym (step-base p (startOf p j) j 0 (first-below p j s l) (let e = start-is p j in omega arith) refl))
@@ -112,23 +112,8 @@ module _ (p : Plan) (capture : List ℕ) (cells bytes : ℕ) (k : Captured p cap
           same _ _ (all-at _ _ r {i = startOf p j} (let q = part-below p j 0 (startOf p j) (first-below p j (k .small) m) refl (omega arith) in omega arith))
           ∙ first-value p j n (k .small) m l
 
--- what is left of the code after all vectors names the net
-names : (p : Plan) (bytes : ℕ) (capture : List ℕ) (t c code n : ℕ) → n < p .nets → (readBelow p bytes capture t n c ≡ true → code ≡ suc n) → eqb (lasting p bytes capture t c (cond (ltb (p .nets) code) 0 code)) (suc n) ≡ readBelow p bytes capture t n c
-unfolding lasting
-names p bytes capture t c code n l h = same-test _ _ (λ e. there (cond (ltb (p .nets) code) 0 code) (eqb-true _ _ e)) (λ r. here r (h r))
-  where
-    there : (x : ℕ) → cond (readBelow p bytes capture t (x - 1) c) x 0 ≡ suc n → readBelow p bytes capture t n c ≡ true
-    there x e = go (readBelow p bytes capture t (x - 1) c) refl e
-      where
-        go : (a : Bool) → readBelow p bytes capture t (x - 1) c ≡ a → cond a x 0 ≡ suc n → readBelow p bytes capture t n c ≡ true
-        go true r q = let s : x - 1 ≡ n = omega arith in rw s at r
-        go false r q = absurd (omega arith)
-
-    here : readBelow p bytes capture t n c ≡ true → code ≡ suc n → eqb (cond (readBelow p bytes capture t (cond (ltb (p .nets) code) 0 code - 1) c) (cond (ltb (p .nets) code) 0 code) 0) (suc n) ≡ true
-    here r q = rw (q, le-ltb (p .nets) (suc n) l, sub-one, r) (eq-eqb (suc n) (suc n) refl)
-
 -- no entry is above the number of nets
-own-low : (nets code : ℕ) → cond (ltb nets code) 0 code ≤ nets
+pub own-low : (nets code : ℕ) → cond (ltb nets code) 0 code ≤ nets
 own-low nets code =
     ⊎-elim
     (λ (l : nets < code). rw (lt-ltb nets code l) (omega arith))
@@ -141,30 +126,3 @@ own-entries nets most cells before after l h m =
 
 pub captured : (p : Plan) (capture : List ℕ) (cells bytes : ℕ) → Captured p capture cells (rowBytes cells) → bytes ≡ rowBytes cells → Captured p capture cells bytes
 captured p capture cells bytes k e = subst (Captured p capture cells) (sym e) k
-
--- the three steps together
-pub all-read : (p : Plan) (capture before coded own after : List ℕ) (cells bytes : ℕ) → Captured p capture cells bytes → Entries 0 cells before → Mapped (codeFrom p bytes capture (p .wide)) before cells coded → Mapped (λ c code. cond (ltb (p .nets) code) 0 code) coded cells own → Mapped (lasting p bytes capture (length (stepsOf (basesFor p)))) own cells after → Read p capture before cells after
-all-read p capture before coded own after cells bytes k z m o r =
-    record { long = r .long ∙ o .long ∙ m .long; low = low; reads = reads; rest = λ c l. r .rest c l ∙ o .rest c l ∙ m .rest c l }
-  where
-    total : ℕ
-    total = length (stepsOf (basesFor p))
-
-    blank : (c : ℕ) → c < cells → getD before c 0 ≡ 0
-    blank c l = let q = z .low c l in omega arith
-
-    entry : (c : ℕ) → c < cells → getD after c 0 ≡ lasting p bytes capture (length (stepsOf (basesFor p))) c (cond (ltb (p .nets) (codeFrom p bytes capture (p .wide) c 0)) 0 (codeFrom p bytes capture (p .wide) c 0))
-    entry c l =
-        r .done c l
-        ∙ ap (lasting p bytes capture (length (stepsOf (basesFor p))) c) (o .done c l ∙ ap (λ (x : ℕ). cond (ltb (p .nets) x) 0 x) (m .done c l ∙ ap (codeFrom p bytes capture (p .wide) c) (blank c l)))
-
-    low : (c : ℕ) → c < cells → getD after c 0 ≤ p .nets
-    low c l =
-        rw (entry c l)
-        (le-trans (lasting-low p bytes capture (length (stepsOf (basesFor p))) c _) (own-low (p .nets) (codeFrom p bytes capture (p .wide) c 0)))
-
-    reads : (c n : ℕ) → c < cells → n < p .nets → eqb (getD after c 0) (suc n) ≡ readBelow p (rowBytes cells) capture (length (stepsOf (basesFor p))) n c
-    reads c n l q =
-        ap (λ (x : ℕ). eqb x (suc n)) (entry c l)
-        ∙ names p bytes capture (length (stepsOf (basesFor p))) c (codeFrom p bytes capture (p .wide) c 0) n q (reads-code p capture cells bytes k n c q (k .coded))
-        ∙ ap (λ (x : ℕ). readBelow p x capture (length (stepsOf (basesFor p))) n c) (k .bytes-are)

@@ -1,8 +1,8 @@
--- A table that is written entry by entry, and what one row leaves of an entry.
+-- A table that is written entry by entry.
 use Prim.Native.Nat.{ℕ, _+_, _*_, _-_, _/_, _≤_, _<_}
 use mathlib.Core.Path.{_≡_, refl, sym, _∙_, ap, subst}
 use mathlib.Core.Logic.{⊎-elim}
-use mathlib.Core.Bool.{Bool, true, false, cond, xor, Bool·beq, false≢true, true≢false}
+use mathlib.Core.Bool.{Bool}
 use mathlib.Core.List.{List}
 use native.Mathlib.Numerals.{add-one}
 use native.Mathlib.Omega.{arith}
@@ -10,7 +10,7 @@ use lib.ListN.{length, getD, set, length-set}
 use lib.Seq.{getD-set-same, getD-set-other}
 use Rattle.rules.specs.Basics.{digit, ceil, rowBytes}
 use Rattle.rules.proofs.Tests.{below-suc}
-use Rattle.readings.specs.Readings.{kept, Mapped, Scanned, Entries}
+use Rattle.readings.specs.Readings.{Mapped, Scanned, Entries}
 
 -- entry by entry
 pub mapped-none : (f : ℕ → ℕ → ℕ) (before : List ℕ) → Mapped f before 0 before
@@ -35,35 +35,6 @@ mapped-next {n = n} m = m .rest n (omega arith)
 pub byte-inside : (capture : List ℕ) (at cells c : ℕ) → Scanned capture at cells → c < cells → at + c / 8 < length capture
 unfolding rowBytes ceil
 byte-inside capture at cells c s l = omega (arith, s .inside)
-
--- what a row leaves: 0 of 0, all of an entry whose net has the value read, else 0
-pub kept-none : (read : Bool) (nets : ℕ → Bool) (entry : ℕ) → entry ≡ 0 → 0 ≡ kept read nets entry
-unfolding kept
-kept-none read nets entry e = go (xor read (nets (entry - 1)))
-  where
-    go : (a : Bool) → 0 ≡ cond a 0 entry
-    go true = refl
-    go false = sym e
-
-pub kept-same : (read v : Bool) (nets : ℕ → Bool) (entry : ℕ) → v ≡ nets (entry - 1) → Bool·beq read v ≡ true → entry ≡ kept read nets entry
-unfolding kept xor
-kept-same read v nets entry e h = rw (← e) (same read v h)
-  where
-    same : (a c : Bool) → Bool·beq a c ≡ true → entry ≡ cond (xor a c) 0 entry
-    same true true k = refl
-    same true false k = absurd (false≢true k)
-    same false true k = absurd (false≢true k)
-    same false false k = refl
-
-pub kept-off : (read v : Bool) (nets : ℕ → Bool) (entry : ℕ) → v ≡ nets (entry - 1) → Bool·beq read v ≡ false → 0 ≡ kept read nets entry
-unfolding kept xor
-kept-off read v nets entry e h = rw (← e) (off read v h)
-  where
-    off : (a c : Bool) → Bool·beq a c ≡ false → 0 ≡ cond (xor a c) 0 entry
-    off true true k = absurd (true≢false k)
-    off true false k = refl
-    off false true k = refl
-    off false false k = absurd (true≢false k)
 
 -- one map after another, maps that agree, and bounds of what a map leaves
 pub mapped-then : {f g : ℕ → ℕ → ℕ} {before between after : List ℕ} {n : ℕ} → Mapped f before n between → Mapped g between n after → Mapped (λ c e. g c (f c e)) before n after
@@ -91,8 +62,10 @@ pub entry-low : {f : ℕ → ℕ → ℕ} {before after : List ℕ} {n cells mos
 entry-low {n = n} m h l = rw (mapped-next m) (h .low n l)
 
 -- what a cell read, put in its place
-pub kept-read : (r s : Bool) (nets : ℕ → Bool) (entry x : ℕ) → x ≡ kept r nets entry → r ≡ s → x ≡ kept s nets entry
-kept-read r s nets entry x e h = e ∙ ap (λ (a : Bool). kept a nets entry) h
-
 pub digit-read : (r s : Bool) (code x : ℕ) → x ≡ 2 * code + digit r → r ≡ s → x ≡ 2 * code + digit s
 digit-read r s code x e h = e ∙ ap (λ (a : Bool). 2 * code + digit a) h
+
+-- fewer entries are as low
+pub entries-below : (most n m : ℕ) (table : List ℕ) → Entries most m table → n ≤ m → Entries most n table
+entries-below most n m table h l =
+    record { long = (let a = h .long in omega arith); low = λ c q. h .low c (omega arith) }

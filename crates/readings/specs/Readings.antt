@@ -1,24 +1,21 @@
 -- What a cell reads in a row of a capture, and a table of entries, one a cell: 1 + a net whose own word it may still have read, or 0.
 use Prim.Native.Nat.{ℕ, zero, suc, _+_, _*_, _-_, _/_, _%_, _^_, _≤_, _<_}
 use mathlib.Core.Path.{_≡_}
-use mathlib.Core.Bool.{Bool, cond, not, xor}
+use mathlib.Core.Bool.{Bool, true, not, xor, _&&_, _||_}
 use mathlib.Core.List.{List}
-use lib.Dec.{eqb}
+use lib.Dec.{eqb, ltb}
 use lib.ListN.{length, getD}
-use Rattle.rules.specs.Basics.{all, bit, digit, rowBytes}
+use Rattle.rules.specs.Basics.{all, any, bit, digit, rowBytes}
 use Rattle.rules.specs.File.{byteAt}
 use Rattle.rules.specs.Vectors.{insertedAfter, between, weave, stepsOf, vectorOf}
 use Rattle.rules.specs.declared.Step.the-variants.{Base}
+use Rattle.words.specs.Sets.{netWords, unlike}
 use Rattle.plan.specs.declared.steps.Plan.{Plan}
 use Rattle.plan.specs.Plans.{basesFor, Small}
 
 -- what the cell at c read in the row from `at` on
 unfoldable pub seenAt : List ℕ → ℕ → ℕ → Bool
 seenAt capture at c = bit (byteAt capture (at + c / 8)) (c % 8)
-
--- an entry after a row: 1 + n stays where the cell read net n's value, else it is 0
-unfoldable pub kept : Bool → (ℕ → Bool) → ℕ → ℕ
-kept read nets entry = cond (xor read (nets (entry - 1))) 0 entry
 
 -- net n's value in vector t of the plan
 unfoldable pub valueAt : Plan → ℕ → ℕ → Bool
@@ -32,16 +29,6 @@ offAt plan bytes capture n c t = xor (seenAt capture (t * bytes) c) (valueAt pla
 unfoldable pub readBelow : Plan → ℕ → List ℕ → ℕ → ℕ → ℕ → Bool
 readBelow plan bytes capture t n c = all t (λ u. not (offAt plan bytes capture n c u))
 
--- an entry after the first t vectors
-unfoldable pub lasting : Plan → ℕ → List ℕ → ℕ → ℕ → ℕ → ℕ
-lasting plan bytes capture t c entry = cond (readBelow plan bytes capture t (entry - 1) c) entry 0
-
--- an entry after the k vectors from t on
-unfoldable pub lastingFrom : Plan → ℕ → List ℕ → ℕ → ℕ → ℕ → ℕ → ℕ
-lastingFrom plan bytes capture t zero c entry = entry
-lastingFrom plan bytes capture t (suc k) c entry =
-    kept (seenAt capture ((t + k) * bytes) c) (valueAt plan (t + k)) (lastingFrom plan bytes capture t k c entry)
-
 -- where base vector i stands in the plan
 unfoldable pub startOf : Plan → ℕ → ℕ
 startOf plan i = length (weave Base (between (basesFor plan)) i)
@@ -51,11 +38,54 @@ unfoldable pub codeFrom : Plan → ℕ → List ℕ → ℕ → ℕ → ℕ → 
 codeFrom plan bytes capture zero c code = code
 codeFrom plan bytes capture (suc j) c code = 2 * codeFrom plan bytes capture j c code + digit (seenAt capture (startOf plan j * bytes) c)
 
+-- where the second group begins, if there is one: from here on the values of the vectors are those of the first group once more
+unfoldable pub period : Plan → ℕ
+period plan = startOf plan (plan .wide)
+
+-- a cell of this entry may not change its reading where these nets change: it names none of them
+unfoldable pub stray : (ℕ → Bool) → ℕ → Bool
+stray changing zero = true
+stray changing (suc n) = not (changing n)
+
+-- digit i of a byte of cells that stay, of those from `first` on, where these digits differ between two rows
+unfoldable pub staying : ℕ → ℕ → (ℕ → Bool) → List ℕ → ℕ → ℕ → Bool
+staying left unlike changing table first i = bit left i && not (bit unlike i && stray changing (getD table (first + i) 0))
+
+-- the cell at c reads otherwise in the row from `other` on than in that from `at` on, and its entry names no net that changes between them
+unfoldable pub strayAt : List ℕ → ℕ → ℕ → (ℕ → Bool) → List ℕ → ℕ → Bool
+strayAt capture at other changing table c = xor (seenAt capture at c) (seenAt capture other c) && stray changing (getD table c 0)
+
+-- the cell at c changes its reading after vector t, and its entry's net does not change there
+unfoldable pub strayAfter : Plan → ℕ → List ℕ → List ℕ → ℕ → ℕ → Bool
+strayAfter plan bytes capture table c t =
+    strayAt capture (t * bytes) ((t + 1) * bytes) (unlike (valueAt plan t) (valueAt plan (t + 1))) table c
+
+-- it does so among the vectors inserted after base vector i, the next base vector included
+unfoldable pub strayIn : Plan → ℕ → List ℕ → List ℕ → ℕ → ℕ → Bool
+strayIn plan bytes capture table c i =
+    let extra : ℕ = insertedAfter (basesFor plan) i in
+    ltb 0 extra && any (1 + extra) (λ k. strayAfter plan bytes capture table c (startOf plan i + k))
+
+-- the cell at c reads otherwise in vector u than in the one `first` vectors later
+unfoldable pub otherLater : ℕ → ℕ → List ℕ → ℕ → ℕ → Bool
+otherLater first bytes capture c u = xor (seenAt capture ((first + u) * bytes) c) (seenAt capture (u * bytes) c)
+
+-- the cell at c has so read something else than its entry's net somewhere
+unfoldable pub lost : Plan → ℕ → List ℕ → List ℕ → ℕ → Bool
+lost plan bytes capture table c =
+    any (plan .wide) (strayIn plan bytes capture table c) || any (length (stepsOf (basesFor plan)) - period plan) (otherLater (period plan) bytes capture c)
+
 -- the entries of the cells below n have become f of what they were, the others are as before
 pub record Mapped (f : ℕ → ℕ → ℕ) (before : List ℕ) (n : ℕ) (after : List ℕ) : Type 0 where
   pub long : length after ≡ length before
   pub done : (c : ℕ) → c < n → getD after c 0 ≡ f c (getD before c 0)
   pub rest : (c : ℕ) → n ≤ c → getD after c 0 ≡ getD before c 0
+
+-- a bit for each cell in `left`, as in a row: of the cells below n those stay that are not lost, the others are as before
+pub record Left (lost : ℕ → Bool) (before : List ℕ) (n : ℕ) (after : List ℕ) : Type 0 where
+  pub long : length after ≡ length before
+  pub done : (c : ℕ) → c < n → seenAt after 0 c ≡ (seenAt before 0 c && not (lost c))
+  pub rest : (c : ℕ) → n ≤ c → seenAt after 0 c ≡ seenAt before 0 c
 
 -- the capture has a row of so many cells from `at` on
 pub record Scanned (capture : List ℕ) (at cells : ℕ) : Type 0 where
@@ -75,6 +105,25 @@ pub record Captured (plan : Plan) (capture : List ℕ) (cells bytes : ℕ) : Typ
   pub bytes-are : bytes ≡ rowBytes cells
   pub vectors : length (stepsOf (basesFor plan)) ≤ 4096
   pub rows-are : length capture ≡ length (stepsOf (basesFor plan)) * bytes
+
+-- what of this the rows themselves need
+pub record Rowed (plan : Plan) (capture : List ℕ) (bytes : ℕ) : Type 0 where
+  pub small : Small plan
+  pub short : bytes ≤ 128
+  pub vectors : length (stepsOf (basesFor plan)) ≤ 4096
+  pub rows-are : length capture ≡ length (stepsOf (basesFor plan)) * bytes
+
+-- a capture of so many vectors, the first group of which ends at `first`
+pub record Later (capture : List ℕ) (first vectors bytes : ℕ) : Type 0 where
+  pub short : bytes ≤ 128
+  pub few : vectors ≤ 4096
+  pub ends : first ≤ 4096
+  pub rows-are : length capture ≡ vectors * bytes
+
+-- entries for the bits of so many bytes, none above the number of nets, and as many bytes for the cells that are left
+pub record Lent (bytes : ℕ) (table left : List ℕ) : Type 0 where
+  pub entries : Entries (64 * netWords) (8 * bytes) table
+  pub room : bytes ≤ length left
 
 -- part i of the plan begins at vector t, and has so many vectors after its base vector
 pub record Part (plan : Plan) (i extra t : ℕ) : Type 0 where

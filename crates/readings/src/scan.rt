@@ -1,44 +1,102 @@
-// One row of a capture against a table: what each cell read there, and whether it is what its entry calls for.
+// What a cell read in a row of a capture, and two rows held against each other: which cells read otherwise, and may not.
 ghost use mathlib.Core.Path.{_≡_};
-ghost use Prim.Native.Nat.{_<_, _≤_, _*_, _+_, _/_};
+ghost use Prim.Native.Nat.{_<_, _≤_, _*_, _+_, _/_, _^_};
+ghost use mathlib.Core.Bool.{_&&_, not};
 ghost use lib.ListN.{length};
+ghost use Rattle.rules.specs.Basics.{bit, word, digit};
 ghost use Rattle.words.specs.Sets.{netWords, member};
-ghost use Rattle.readings.specs.Readings.{seenAt, kept, Mapped, Scanned, Entries};
+ghost use Rattle.readings.specs.Readings.{seenAt, stray, staying, strayAt, Left, Entries, Lent};
 use rules::Net;
 use words::NetSet;
+
+// Digit i of a byte, from the least.
+fn digit_at(byte: u8, i: usize) -> bool
+    requires { ⌜ i < 8 ⌝ }
+    ensures { λ r. ⌜ r ≡ bit byte i ⌝ }
+{
+    (byte >> i) & 1 == 1
+}
 
 // What the cell at c read in the row from `at` on.
 pub(crate) fn seen(capture: &[u8], at: usize, c: usize) -> bool
     requires { ⌜ at + c / 8 < length (now capture) ⌝ }
     ensures { λ r. ⌜ r ≡ seenAt (now (capture .entry)) at c ⌝ }
 {
-    let byte = capture[at + c / 8];
-    (byte >> (c % 8)) & 1 == 1
+    digit_at(capture[at + c / 8], c % 8)
 }
 
-// An entry 1 + n stays where the cell read net n's value, and is 0 otherwise; so is 0.
-fn keep(read: bool, nets: NetSet, entry: u16) -> u16
+// A cell of this entry may not change its reading where these nets change: it names none of them.
+fn stray(entry: u16, changing: NetSet) -> bool
     requires { ⌜ entry ≤ 64 * netWords ⌝ }
-    ensures { λ r. ⌜ r ≡ kept read (member (nets .words)) entry ⌝ }
+    ensures { λ r. ⌜ r ≡ stray (member (changing .words)) entry ⌝ }
 {
     if entry == 0 {
-        return 0;
+        return true;
     }
-    if read == nets.has(Net(entry - 1)) {
-        return entry;
-    }
-    0
+    !changing.has(Net(entry - 1))
 }
 
-// Each cell's entry, after the row from `at` on, in which the nets of the set have value 1.
-pub(crate) fn check_row(capture: &[u8], at: usize, cells: usize, nets: NetSet, table: &mut [u16])
-    requires { ⌜ Scanned (now capture) at cells ⌝ }
-    requires { ⌜ Entries (64 * netWords) cells (now table) ⌝ }
-    ensures { λ r. ⌜ Mapped (λ c. kept (seenAt (now (capture .entry)) at c) (member (nets .words))) (now (table .entry)) cells (now (table .exit)) ⌝ }
+// A byte below 2 ^ i, with digit i if it is set.
+fn with_digit(byte: u8, i: usize, set: bool) -> u8
+    requires { ⌜ (i < 8) × (byte < 2 ^ i) ⌝ }
+    ensures { λ r. ⌜ r ≡ byte + digit set * 2 ^ i ⌝ }
 {
-    let mut c = 0;
-    while c < cells {
-        table[c] = keep(seen(capture, at, c), nets, table[c]);
-        c += 1;
+    if set {
+        return byte + (1 << i);
+    }
+    byte
+}
+
+// Digit i of a byte of cells that are left: the cell stays if it reads alike, or if its entry allows a change.
+fn stays(left: u8, unlike: u8, i: usize, entry: u16, changing: NetSet) -> bool
+    requires { ⌜ i < 8 ⌝ }
+    requires { ⌜ entry ≤ 64 * netWords ⌝ }
+    ensures { λ r. ⌜ r ≡ (bit left i && not (bit unlike i && stray (member (changing .words)) entry)) ⌝ }
+{
+    if digit_at(left, i) {
+        if digit_at(unlike, i) {
+            return !stray(entry, changing);
+        }
+        return true;
+    }
+    false
+}
+
+// The byte of cells that are left of those from `first` on, where these bits differ between two rows.
+fn sift(left: u8, unlike: u8, table: &[u16], first: usize, changing: NetSet) -> u8
+    requires { ⌜ Entries (64 * netWords) (first + 8) (now table) ⌝ }
+    ensures { λ r. ⌜ r ≡ word 8 (staying left unlike (member (changing .words)) (now (table .entry)) first) ⌝ }
+{
+    if left & unlike == 0 {
+        return left;
+    }
+    let mut kept = 0;
+    let mut i = 0;
+    while i < 8 {
+        kept = with_digit(kept, i, stays(left, unlike, i, table[first + i], changing));
+        i += 1;
+    }
+    kept
+}
+
+// The cells that are left after two rows between which these nets change.
+pub(crate) fn check_rows(
+    capture: &[u8],
+    at: usize,
+    other: usize,
+    bytes: usize,
+    changing: NetSet,
+    table: &[u16],
+    left: &mut [u8],
+)
+    requires { ⌜ (at + bytes ≤ length (now capture)) × (other + bytes ≤ length (now capture)) ⌝ }
+    requires { ⌜ Lent bytes (now table) (now left) ⌝ }
+    ensures { λ r. ⌜ Left (strayAt (now (capture .entry)) at other (member (changing .words)) (now (table .entry))) (now (left .entry)) (8 * bytes) (now (left .exit)) ⌝ }
+{
+    let mut j = 0;
+    while j < bytes {
+        let unlike = capture[at + j] ^ capture[other + j];
+        left[j] = sift(left[j], unlike, table, 8 * j, changing);
+        j += 1;
     }
 }

@@ -1,61 +1,185 @@
-// All vectors of a plan against a capture, part by part: a base vector and those inserted after it.
+// Which cells read one net's own word in every vector. The first group's base vectors gave each cell its entry; between two of them a
+// reading may change only where the entry's net changes, and every later group is the first once more.
 ghost use mathlib.Core.Path.{_≡_};
-ghost use Prim.Native.Nat.{_+_, _*_};
+ghost use mathlib.Core.Bool.{cond};
+ghost use Prim.Native.Nat.{_+_, _*_, _-_, _≤_, _<_};
 ghost use lib.ListN.{length};
-ghost use Rattle.rules.specs.Basics.{rowBytes};
-ghost use Rattle.rules.specs.Vectors.{stepsOf};
-ghost use Rattle.words.specs.Sets.{netWords};
-ghost use Rattle.plan.specs.Plans.{basesFor};
-ghost use Rattle.readings.specs.Readings.{lasting, lastingFrom, Mapped, Entries, Captured, Part, Read};
+ghost use Rattle.rules.specs.Basics.{any, rowBytes};
+ghost use Rattle.words.specs.Sets.{member, unlike};
+ghost use Rattle.readings.specs.Readings.{seenAt, period, strayAt, strayAfter, strayIn, otherLater, lost, Mapped, Entries, Left, Captured, Rowed, Later, Lent, Part, Read};
 use crate::codes::own_codes;
 use crate::codes::read_codes;
-use crate::scan::check_row;
+use crate::scan::check_rows;
+use crate::scan::seen;
 use plan::steps::Plan;
 use plan::steps::base_values;
 use plan::steps::extra_after;
+use plan::steps::total;
 use plan::values::mixed;
 use rows::bytes::row_bytes;
+use words::NetSet;
 
-// The entries after the vectors of part i, which begins at vector t.
+// A row of 1,024 cells.
+const MOST_BYTES: usize = 128;
+
+// The cells that are left after vectors t and t + 1, whose nets have these values.
+fn check_next(
+    capture: &[u8],
+    t: usize,
+    bytes: usize,
+    before: NetSet,
+    after: NetSet,
+    table: &[u16],
+    left: &mut [u8],
+)
+    requires { ⌜ (t + 1) * bytes + bytes ≤ length (now capture) ⌝ }
+    requires { ⌜ t ≤ 4096 ⌝ }
+    requires { ⌜ Lent bytes (now table) (now left) ⌝ }
+    ensures { λ r. ⌜ Left (strayAt (now (capture .entry)) (t * bytes) ((t + 1) * bytes) (unlike (member (before .words)) (member (after .words))) (now (table .entry))) (now (left .entry)) (8 * bytes) (now (left .exit)) ⌝ }
+{
+    let changing = before.flip(after);
+    check_rows(
+        capture,
+        t * bytes,
+        (t + 1) * bytes,
+        bytes,
+        changing,
+        table,
+        left,
+    );
+}
+
+// The cells that are left after the vectors inserted in part i, which begins at vector t: each is held against the one before it, and the
+// next base vector against the last.
+fn check_inserted(
+    capture: &[u8],
+    plan: Plan,
+    i: usize,
+    extra: usize,
+    t: usize,
+    bytes: usize,
+    table: &[u16],
+    left: &mut [u8],
+)
+    requires { ⌜ Rowed plan (now capture) bytes ⌝ }
+    requires { ⌜ Part plan i extra t ⌝ }
+    requires { ⌜ 0 < extra ⌝ }
+    requires { ⌜ Lent bytes (now table) (now left) ⌝ }
+    ensures { λ r. ⌜ Left (λ c. any (1 + extra) (λ k. strayAfter plan bytes (now (capture .entry)) (now (table .entry)) c (t + k))) (now (left .entry)) (8 * bytes) (now (left .exit)) ⌝ }
+{
+    let old = base_values(plan, i);
+    let new = base_values(plan, i + 1);
+    let mut values = old;
+    let mut k = 0;
+    while k < extra {
+        let next = mixed(old, new, (k + 1) * plan.limit);
+        check_next(capture, t + k, bytes, values, next, table, left);
+        values = next;
+        k += 1;
+    }
+    check_next(capture, t + extra, bytes, values, new, table, left);
+}
+
+// The cells that are left after part i: its base vector and the next are right by the entries, so where nothing is inserted all stay.
 fn check_part(
     capture: &[u8],
     plan: Plan,
     i: usize,
     extra: usize,
     t: usize,
-    cells: usize,
     bytes: usize,
-    table: &mut [u16],
+    table: &[u16],
+    left: &mut [u8],
 )
-    requires { ⌜ Captured plan (now capture) cells bytes ⌝ }
+    requires { ⌜ Rowed plan (now capture) bytes ⌝ }
     requires { ⌜ Part plan i extra t ⌝ }
-    requires { ⌜ Entries (64 * netWords) cells (now table) ⌝ }
-    ensures { λ r. ⌜ Mapped (lastingFrom plan bytes (now (capture .entry)) t (1 + extra)) (now (table .entry)) cells (now (table .exit)) ⌝ }
+    requires { ⌜ Lent bytes (now table) (now left) ⌝ }
+    ensures { λ r. ⌜ Left (λ c. strayIn plan bytes (now (capture .entry)) (now (table .entry)) c i) (now (left .entry)) (8 * bytes) (now (left .exit)) ⌝ }
 {
-    let old = base_values(plan, i);
-    let new = base_values(plan, i + 1);
-    let mut k = 0;
-    while k < 1 + extra {
-        let nets = mixed(old, new, k * plan.limit);
-        check_row(capture, (t + k) * bytes, cells, nets, table);
-        k += 1;
+    if extra == 0 {
+        return;
+    }
+    check_inserted(capture, plan, i, extra, t, bytes, table, left);
+}
+
+// The cells that are left after the first group, and where it ends.
+fn check_first(capture: &[u8], plan: Plan, bytes: usize, table: &[u16], left: &mut [u8]) -> usize
+    requires { ⌜ Rowed plan (now capture) bytes ⌝ }
+    requires { ⌜ Lent bytes (now table) (now left) ⌝ }
+    ensures { λ r. ⌜ r ≡ period plan ⌝ }
+    ensures { λ r. ⌜ Left (λ c. any (plan .wide) (strayIn plan bytes (now (capture .entry)) (now (table .entry)) c)) (now (left .entry)) (8 * bytes) (now (left .exit)) ⌝ }
+{
+    let mut t = 0;
+    let mut i = 0;
+    while i < plan.wide {
+        let extra = extra_after(plan, i);
+        check_part(capture, plan, i, extra, t, bytes, table, left);
+        t += 1 + extra;
+        i += 1;
+    }
+    t
+}
+
+// The cells that are left after the later groups: each vector is held against the one a group earlier.
+fn check_later(
+    capture: &[u8],
+    first: usize,
+    vectors: usize,
+    bytes: usize,
+    table: &[u16],
+    left: &mut [u8],
+)
+    requires { ⌜ Later (now capture) first vectors bytes ⌝ }
+    requires { ⌜ Lent bytes (now table) (now left) ⌝ }
+    ensures { λ r. ⌜ Left (λ c. any (vectors - first) (otherLater first bytes (now (capture .entry)) c)) (now (left .entry)) (8 * bytes) (now (left .exit)) ⌝ }
+{
+    let none = NetSet::empty();
+    let mut u = 0;
+    while first + u < vectors {
+        check_rows(
+            capture,
+            (first + u) * bytes,
+            u * bytes,
+            bytes,
+            none,
+            table,
+            left,
+        );
+        u += 1;
     }
 }
 
-// The entries after all vectors.
-fn check_all(capture: &[u8], plan: Plan, cells: usize, bytes: usize, table: &mut [u16])
-    requires { ⌜ Captured plan (now capture) cells bytes ⌝ }
-    requires { ⌜ Entries (64 * netWords) cells (now table) ⌝ }
-    ensures { λ r. ⌜ Mapped (lasting plan bytes (now (capture .entry)) (length (stepsOf (basesFor plan)))) (now (table .entry)) cells (now (table .exit)) ⌝ }
+// The cells that are left after all vectors.
+fn check_all(capture: &[u8], plan: Plan, bytes: usize, table: &[u16], left: &mut [u8])
+    requires { ⌜ Rowed plan (now capture) bytes ⌝ }
+    requires { ⌜ Lent bytes (now table) (now left) ⌝ }
+    ensures { λ r. ⌜ Left (lost plan bytes (now (capture .entry)) (now (table .entry))) (now (left .entry)) (8 * bytes) (now (left .exit)) ⌝ }
 {
-    let size = plan.groups * plan.wide;
-    let mut t = 0;
-    let mut i = 0;
-    while i < size {
-        let extra = extra_after(plan, i);
-        check_part(capture, plan, i, extra, t, cells, bytes, table);
-        t += 1 + extra;
-        i += 1;
+    let vectors = total(plan);
+    let first = check_first(capture, plan, bytes, table, left);
+    check_later(capture, first, vectors, bytes, table, left);
+}
+
+// An entry, where its cell is left.
+fn entry_left(left: bool, entry: u16) -> u16
+    ensures { λ r. ⌜ r ≡ cond left entry 0 ⌝ }
+{
+    if left {
+        return entry;
+    }
+    0
+}
+
+// The entries of the cells that are left; the others become 0.
+fn clear(cells: usize, left: &[u8], table: &mut [u16])
+    requires { ⌜ rowBytes cells ≤ length (now left) ⌝ }
+    requires { ⌜ cells ≤ length (now table) ⌝ }
+    ensures { λ r. ⌜ Mapped (λ c entry. cond (seenAt (now (left .entry)) 0 c) entry 0) (now (table .entry)) cells (now (table .exit)) ⌝ }
+{
+    let mut c = 0;
+    while c < cells {
+        table[c] = entry_left(seen(left, 0, c), table[c]);
+        c += 1;
     }
 }
 
@@ -63,11 +187,13 @@ fn check_all(capture: &[u8], plan: Plan, cells: usize, bytes: usize, table: &mut
 // nothing yet. A cell that reads a net's own word reads the net's code in the first group's base vectors.
 pub fn read_nets(capture: &[u8], plan: Plan, cells: usize, table: &mut [u16])
     requires { ⌜ Captured plan (now capture) cells (rowBytes cells) ⌝ }
-    requires { ⌜ Entries 0 cells (now table) ⌝ }
+    requires { ⌜ Entries 0 (8 * rowBytes cells) (now table) ⌝ }
     ensures { λ r. ⌜ Read plan (now (capture .entry)) (now (table .entry)) cells (now (table .exit)) ⌝ }
 {
     let bytes = row_bytes(cells);
     read_codes(capture, plan, cells, bytes, table);
     own_codes(cells, plan.nets, table);
-    check_all(capture, plan, cells, bytes, table);
+    let mut left = [255u8; MOST_BYTES];
+    check_all(capture, plan, bytes, table, &mut left);
+    clear(cells, &left, table);
 }

@@ -8,7 +8,7 @@ use borrow.Author.Tests.{eqb-true}
 use lib.Dec.{eqb}
 use lib.ListN.{length, getD}
 use Rattle.rules.specs.Answers.{over, pack, field, marksAnswer, marksOutcome}
-use Rattle.rules.specs.Basics.{all, bit, rowBytes, table}
+use Rattle.rules.specs.Basics.{all, bit, ceil, rowBytes, table}
 use Rattle.rules.specs.File.{Board, boardOf, byteAt, cellsOf, netsOf}
 use Rattle.rules.specs.Drivers.{isInput}
 use Rattle.rules.specs.Marks.{readAt, ownAt, differsAt, byteOf, marksOf, bytesThat, isPass, isFail, isUnsure}
@@ -63,12 +63,13 @@ pub whole-capture : (long x : ℕ) → not (eqb long x) ≡ false → long ≡ x
 whole-capture long x h = eqb-true long x (passes-not _ h)
 
 -- a blank table has no entry yet
-pub no-entries : (cells : ℕ) (table : List ℕ) → cells ≤ mostCells → Zero mostCells table → Entries 0 cells table
+pub no-entries : (cells : ℕ) (table : List ℕ) → cells ≤ mostCells → Zero mostCells table → Entries 0 (8 * rowBytes cells) table
+unfolding rowBytes ceil
 no-entries cells table l z = record { long = (let m = z .long in omega arith); low = λ c q. (let e = z .zero-at c in omega arith) }
 
 -- the readings as the judge takes them
-pub readings-of : (file : List ℕ) (p : Plan) (capture before after : List ℕ) (cells : ℕ) → judge (boardChecks file) ≡ Accepted → PlanOf (boardOf file) p → cells ≡ cellsOf file → Entries 0 cells before → Read p capture before cells after → Readings file after
-unfolding boardOf
+pub readings-of : (file : List ℕ) (p : Plan) (capture before after : List ℕ) (cells : ℕ) → judge (boardChecks file) ≡ Accepted → PlanOf (boardOf file) p → cells ≡ cellsOf file → Entries 0 (8 * rowBytes cells) before → Read p capture before cells after → Readings file after
+unfolding boardOf rowBytes ceil
 readings-of file p capture before after cells ok h e z r =
     record { checked = whole-file file ok; long = (let m = z .long in omega (arith, r .long)); nets = λ c l. (let q = r .low c (omega arith) in omega (arith, h .nets-are)) }
 

@@ -2,7 +2,8 @@
 ghost use mathlib.Core.Path.{_≡_};
 ghost use Prim.Native.Nat.{_+_, _*_, _<_, _≤_};
 ghost use Rattle.rules.specs.Basics.{word, rowBytes, rowOf};
-ghost use Rattle.words.specs.Sets.{cellWords, member};
+ghost use lib.ListN.{length};
+ghost use Rattle.words.specs.Sets.{member};
 ghost use Rattle.rows.specs.Rows.{placed, Room, Cells};
 use words::CellSet;
 
@@ -15,11 +16,10 @@ pub fn row_bytes(cells: usize) -> usize
 }
 
 // Byte j of a row: cells 8 j to 8 j + 7, the lowest in the least bit.
-fn row_byte(set: CellSet, j: usize) -> u8
-    requires { ⌜ j < 8 * cellWords ⌝ }
-    ensures { λ r. ⌜ r ≡ word 8 (λ i. member (set .words) (8 * j + i)) ⌝ }
+fn row_byte(words: &[u64], j: usize) -> u8
+    requires { ⌜ j < 8 * length (now words) ⌝ }
+    ensures { λ r. ⌜ r ≡ word 8 (λ i. member (now (words .entry)) (8 * j + i)) ⌝ }
 {
-    let words = set.words;
     let word = words[j / 8];
     ((word >> (8 * (j % 8))) & 255) as u8
 }
@@ -31,9 +31,10 @@ pub fn write_row(out: &mut [u8], at: usize, cells: usize, set: CellSet)
     ensures { λ r. ⌜ now (out .exit) ≡ placed at (rowOf cells (member (set .words))) (now (out .entry)) ⌝ }
 {
     let count = row_bytes(cells);
+    let words = set.words;
     let mut j = 0;
     while j < count {
-        out[at + j] = row_byte(set, j);
+        out[at + j] = row_byte(&words, j);
         j += 1;
     }
 }

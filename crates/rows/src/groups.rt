@@ -3,11 +3,43 @@ ghost use mathlib.Core.Path.{_≡_};
 ghost use Rattle.rules.specs.File.{boardOf};
 ghost use Rattle.rules.specs.Answers.{over};
 ghost use Rattle.rules.specs.Groups.{groupRows};
+ghost use Rattle.select.specs.Highest.{Order};
 ghost use Rattle.rows.specs.Rows.{GroupsRoom};
 use crate::bytes::row_bytes;
 use crate::bytes::write_row;
 use select::groups::selected;
+use select::order::MOST_HIGHEST;
+use select::order::fill_order;
 use words::CellSet;
+
+// The rows of the groups, by the highest drivers of the control cells.
+fn write_rows(
+    file: &[u8],
+    heads: &[u16],
+    links: &[u16],
+    counts: &[u16],
+    order: &[u16],
+    found: usize,
+    cells: usize,
+    groups: usize,
+    out: &mut [u8],
+)
+    requires { ⌜ GroupsRoom (now file) (now heads) (now links) (now counts) cells groups (now out) ⌝ }
+    requires { ⌜ Order (now file) (now order) found ⌝ }
+    ensures { λ r. ⌜ now (out .exit) ≡ over (groupRows (boardOf (now (file .entry))) groups) (now (out .entry)) ⌝ }
+{
+    let bytes = row_bytes(cells);
+    let mut earlier = CellSet::empty();
+    let mut at = 0;
+    let mut g = 0;
+    while g < groups {
+        g += 1;
+        let on = selected(file, heads, links, counts, order, found, g, earlier);
+        write_row(out, at, cells, on);
+        earlier = on.union(earlier);
+        at += bytes;
+    }
+}
 
 // "G rows of R bytes": the control cells that are on in each of the groups.
 pub fn write_groups(
@@ -22,15 +54,17 @@ pub fn write_groups(
     requires { ⌜ GroupsRoom (now file) (now heads) (now links) (now counts) cells groups (now out) ⌝ }
     ensures { λ r. ⌜ now (out .exit) ≡ over (groupRows (boardOf (now (file .entry))) groups) (now (out .entry)) ⌝ }
 {
-    let bytes = row_bytes(cells);
-    let mut earlier = CellSet::empty();
-    let mut at = 0;
-    let mut g = 0;
-    while g < groups {
-        g += 1;
-        let on = selected(file, heads, links, counts, cells, g, earlier);
-        write_row(out, at, cells, on);
-        earlier = on.union(earlier);
-        at += bytes;
-    }
+    let mut order = [0u16; MOST_HIGHEST];
+    let found = fill_order(file, heads, cells, &mut order);
+    write_rows(
+        file,
+        heads,
+        links,
+        counts,
+        &order,
+        found,
+        cells,
+        groups,
+        out,
+    );
 }

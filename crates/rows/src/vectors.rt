@@ -7,7 +7,8 @@ ghost use Rattle.rules.specs.Answers.{over};
 ghost use Rattle.rules.specs.Refusals.{judge, fileChecks};
 ghost use Rattle.rules.specs.declared.Verdict.the-variants.{Accepted};
 ghost use Rattle.rules.specs.Vectors.{vectorAt, vectorRow};
-ghost use Rattle.words.specs.Sets.{netWords, member, plusIf, upTo};
+ghost use lib.ListN.{length};
+ghost use Rattle.words.specs.Sets.{netWords, cellWords, member, plusIf, upTo};
 ghost use Rattle.board.specs.Whole.{Whole};
 ghost use Rattle.rows.specs.Bits.{bitOf, bitAt, outNet};
 ghost use Rattle.rows.specs.Rows.{VectorRoom};
@@ -20,8 +21,10 @@ use plan::values::values;
 use rules::Cell;
 use rules::Position;
 use select::groups::group;
+use words::CELL_WORDS;
 use words::CellSet;
 use words::NetSet;
+use words::core;
 
 // "a control cell has its on value when on, else the other"
 fn control_bit(lit: bool, on: bool) -> bool
@@ -33,45 +36,44 @@ fn control_bit(lit: bool, on: bool) -> bool
     !on
 }
 
-// A cell's bit, where its control cell's turn and the nets' values are known.
-fn cell_bit(cell: Cell, lit: bool, nets: NetSet) -> bool
-    requires { ⌜ outNet cell < 64 * netWords ⌝ }
-    ensures { λ r. ⌜ r ≡ bitOf lit (member (nets .words)) cell ⌝ }
+// The bit of the cell at p, where these control cells are on and these nets have value 1.
+fn cell_bit(cell: Cell, p: Position, on: CellSet, nets: NetSet) -> bool
+    requires { ⌜ (p .0 < 64 * cellWords) × (outNet cell < 64 * netWords) ⌝ }
+    ensures { λ r. ⌜ r ≡ bitOf (member (on .words) (p .0)) (member (nets .words)) cell ⌝ }
 {
     match cell {
         Cell::Internal => false,
         Cell::Input(_) => false,
-        Cell::Control(on) => control_bit(lit, on),
+        Cell::Control(value) => control_bit(on.has(p), value),
         Cell::ThreeState(_, n) => nets.has(n),
         Cell::TwoState(n) => nets.has(n),
     }
 }
 
-// The row with the cell at c besides, if its bit is 1.
-fn add_bit(file: &[u8], on: CellSet, nets: NetSet, c: usize, row: CellSet) -> CellSet
+// The cell at c joins the row, if its bit is 1.
+fn add_bit(file: &[u8], on: CellSet, nets: NetSet, c: usize, row: &mut [u64])
     requires { ⌜ Whole (now file) c ⌝ }
-    ensures { λ r. ⌜ member (r .words) ≡ plusIf (bitAt (boardOf (now (file .entry))) (member (on .words)) (member (nets .words))) c (member (row .words)) ⌝ }
+    requires { ⌜ length (now row) ≡ cellWords ⌝ }
+    ensures { λ r. ⌜ member (now (row .exit)) ≡ plusIf (bitAt (boardOf (now (file .entry))) (member (on .words)) (member (nets .words))) c (member (now (row .entry))) ⌝ }
 {
-    let p = Position(c as u16);
-    if cell_bit(cell_at(file, c), on.has(p), nets) {
-        return row.with(p);
+    if cell_bit(cell_at(file, c), Position(c as u16), on, nets) {
+        core::add(row, c);
     }
-    row
 }
 
-// The cells whose bit is 1, where these control cells are on and these nets have value 1.
+// The cells whose bit is 1, gathered where they stand.
 fn row_cells(file: &[u8], cells: usize, on: CellSet, nets: NetSet) -> CellSet
     requires { ⌜ judge (fileChecks (now file)) ≡ Accepted ⌝ }
     requires { ⌜ cells ≡ cellsOf (now file) ⌝ }
     ensures { λ r. ⌜ member (r .words) ≡ upTo cells (bitAt (boardOf (now (file .entry))) (member (on .words)) (member (nets .words))) ⌝ }
 {
-    let mut row = CellSet::empty();
+    let mut words = [0u64; CELL_WORDS];
     let mut c = 0;
     while c < cells {
-        row = add_bit(file, on, nets, c, row);
+        add_bit(file, on, nets, c, &mut words);
         c += 1;
     }
-    row
+    CellSet { words }
 }
 
 // The row of vector t, and its group.

@@ -2,3 +2,5 @@
 pub mod Marking
 pub mod Passing
 pub mod Largest
+pub mod Highest
+pub mod Ordering

@@ -1,27 +1,20 @@
 -- Marks as nets: a control cell with a driver is marked exactly where one of its nets is a net of a cell that is on.
-use Prim.Native.Nat.{ℕ, _<_}
-use mathlib.Core.Path.{_≡_, refl, sym, _∙_, ap}
+use Prim.Native.Nat.{ℕ, _<_, _≤_, _*_}
+use mathlib.Core.Path.{_≡_, refl}
 use mathlib.Core.Logic.{inr, ⊎-elim}
-use mathlib.Core.Bool.{Bool, true, false, _&&_, _||_, false≢true}
+use mathlib.Core.Bool.{true, false, false≢true}
 use mathlib.Core.List.{List, [], _∷_}
+use native.Mathlib.Omega.{arith}
 use borrow.Author.Tests.{eqb-true, eq-eqb}
-use lib.Dec.{eqb}
-use Rattle.rules.specs.Basics.{any, has}
+use Rattle.rules.specs.Basics.{has}
 use Rattle.rules.specs.File.{Board, netOf}
 use Rattle.rules.specs.Drivers.{controlled, controlFor, onNet, driverOf, drives, meets}
 use Rattle.rules.specs.Groups.{marked}
 use Rattle.rules.proofs.Tests.{left, right, both, or-left, or-right, or-cases, any-at, any-member, same-test}
 use Rattle.rules.proofs.Driving.{meets-net, meets-at, drives-driver, driver-drives}
 use Rattle.rules.proofs.Passes.{has-here, has-there, has-cases, marked-by, marks}
-use Rattle.board.specs.declared.chains.By.the-variants.{ControlCell}
-use Rattle.board.specs.declared.drivers.Driver.the-variants.{Of, Nothing}
-use Rattle.board.specs.Chains.{keyed}
-use Rattle.board.specs.Driving.{driverIn}
-use Rattle.board.proofs.Chaining.{keyed-control}
-use Rattle.board.proofs.Drives.{is-driver, no-driver}
-use Rattle.rules.specs.declared.Net.{Net}
-use Rattle.rules.specs.declared.Position.{Position}
-use Rattle.select.specs.Turns.{onCovered, reached, coveredBy}
+use Rattle.words.specs.Sets.{netWords, meetsIn}
+use Rattle.select.specs.Turns.{coveredBy, reached}
 
 -- a covered net is the net of a cell that is on
 pub covered-by : (b : Board) (on : List ℕ) (n : ℕ) → coveredBy b on n ≡ true → (t : ℕ) × (has t on ≡ true) × (drives b t n ≡ true)
@@ -42,59 +35,47 @@ covers b (x ∷ on) t n h d =
     (λ (e : has t on ≡ true). or-right (drives b x n) (covers b on t n e d))
     (has-cases t x on h)
 
-module _ (b : Board) (f : ℕ → Bool) where
-  -- the cell at c has key k and its net is in f
-  unfoldable pub reaches : ℕ → ℕ → Bool
-  reaches k c = controlled b c && eqb (controlFor b c) k && f (netOf (b .cell c))
-
-  pub reaches-control : (k c : ℕ) → reaches k c ≡ true → keyed b ControlCell k c ≡ true
-  unfolding reaches
-  reaches-control k c h = keyed-control b k c ∙ left (controlled b c && eqb (controlFor b c) k) _ h
-
-  -- on k's chain the test is that of the cell's net alone
-  pub reaches-is : (k c : ℕ) (r : Bool) → keyed b ControlCell k c ≡ true → r ≡ onCovered b f c → reaches k c ≡ r
-  unfolding onCovered reaches
-  reaches-is k c r h e =
-      let on = sym (keyed-control b k c) ∙ h in
-      sym (e ∙ rw (left (controlled b c) _ on, right (controlled b c) on))
-
-  -- what the cell is decides
-  pub covered-none : (c : ℕ) → driverIn (b .cell c) ≡ Nothing → false ≡ onCovered b f c
-  unfolding onCovered
-  covered-none c e = rw (no-driver b c e)
-
-  pub covered-net : (c : ℕ) (k : Position) (n : Net) → driverIn (b .cell c) ≡ Of k n → f (n .0) ≡ onCovered b f c
-  unfolding onCovered
-  covered-net c k n e = let d = is-driver b c k n e in rw (d .0, d .2)
-
-module _ (b : Board) (known : (c : ℕ) → c < b .size → controlled b c ≡ true → netOf (b .cell c) < b .nets) where
+module _ (b : Board) (few : b .nets ≤ 64 * netWords) (known : (c : ℕ) → c < b .size → controlled b c ≡ true → netOf (b .cell c) < b .nets) where
   -- a driver's own net is in its control cell's set
-  own : (k c : ℕ) → c < b .size → controlled b c ≡ true → controlFor b c ≡ k → drives b k (netOf (b .cell c)) ≡ true
+  own : (c : ℕ) → c < b .size → controlled b c ≡ true → drives b (controlFor b c) (netOf (b .cell c)) ≡ true
   unfolding driverOf onNet
-  own k c l x e = rw e at (driver-drives b (netOf (b .cell c)) c l (both (eq-eqb (netOf (b .cell c)) (netOf (b .cell c)) refl) x))
+  own c l x = driver-drives b (netOf (b .cell c)) c l (both (eq-eqb (netOf (b .cell c)) (netOf (b .cell c)) refl) x)
 
-  reached-marked : (on : List ℕ) (k : ℕ) → reached b (coveredBy b on) k ≡ true → marked b on k ≡ true
-  unfolding reached reaches
-  reached-marked on k h =
-      let d = any-member (b .size) (reaches b (coveredBy b on) k) h in
-      let key = left (controlled b (d .0) && eqb (controlFor b (d .0)) k) _ (d .2) in
-      let x = left (controlled b (d .0)) _ key in
-      let t = covered-by b on (netOf (b .cell (d .0))) (right (controlled b (d .0) && eqb (controlFor b (d .0)) k) (d .2)) in
-      marks b on (t .0) k (t .1) (inr (meets-at b (t .0) k (netOf (b .cell (d .0))) (known (d .0) (d .1) x) (t .2) (own k (d .0) (d .1) x (eqb-true _ _ (right (controlled b (d .0)) key)))))
-
-  reached-at : (f : ℕ → Bool) (k n : ℕ) → drives b k n ≡ true → f n ≡ true → reached b f k ≡ true
-  unfolding reached reaches driverOf onNet
-  reached-at f k n d h =
+  -- a control cell's nets are nets of the board
+  net-low : (k n : ℕ) → drives b k n ≡ true → n < b .nets
+  unfolding driverOf onNet
+  net-low k n d =
       let c = drives-driver b k n d in
-      let at = eqb-true (netOf (b .cell (c .0))) n (left (onNet b n (c .0)) _ (c .2)) in
-      any-at (b .size) (reaches b f k) (c .1) (both (both (right (onNet b n (c .0)) (c .2)) (eq-eqb _ _ (c .3))) (rw at h))
+      let e = eqb-true (netOf (b .cell (c .0))) n (left (onNet b n (c .0)) _ (c .2)) in
+      let l = known (c .0) (c .1) (right (onNet b n (c .0)) (c .2)) in
+      omega arith
+
+  -- a covered net marks its control cells
+  net-marks : (on : List ℕ) (k n : ℕ) → drives b k n ≡ true → coveredBy b on n ≡ true → marked b on k ≡ true
+  net-marks on k n d h =
+      let t = covered-by b on n h in
+      marks b on (t .0) k (t .1) (inr (meets-at b (t .0) k n (net-low k n d) (t .2) d))
+
+  -- so a driver on a covered net has a marked control cell
+  pub covered-marked : (on : List ℕ) (c : ℕ) → c < b .size → controlled b c ≡ true → coveredBy b on (netOf (b .cell c)) ≡ true → marked b on (controlFor b c) ≡ true
+  covered-marked on c l x h = net-marks on (controlFor b c) (netOf (b .cell c)) (own c l x) h
+
+  reached-marked : (on : List ℕ) (k : ℕ) → reached b on k ≡ true → marked b on k ≡ true
+  unfolding reached meetsIn
+  reached-marked on k h =
+      let m = any-member _ _ h in
+      net-marks on k (m .0) (left (drives b k (m .0)) _ (m .2)) (right (drives b k (m .0)) (m .2))
+
+  reached-at : (on : List ℕ) (k t n : ℕ) → has t on ≡ true → drives b t n ≡ true → drives b k n ≡ true → reached b on k ≡ true
+  unfolding reached meetsIn
+  reached-at on k t n h e d = let l = net-low k n d in any-at _ _ (omega arith) (both d (covers b on t n h e))
 
   -- a control cell with a driver is marked exactly where it is reached
-  pub marked-reached : (on : List ℕ) (c : ℕ) → c < b .size → controlled b c ≡ true → marked b on (controlFor b c) ≡ reached b (coveredBy b on) (controlFor b c)
+  pub marked-reached : (on : List ℕ) (c : ℕ) → c < b .size → controlled b c ≡ true → marked b on (controlFor b c) ≡ reached b on (controlFor b c)
   marked-reached on c l x =
       same-test _ _
       (λ h. let t = marked-by b on (controlFor b c) h in ⊎-elim
-      (λ (e : t .0 ≡ controlFor b c). let d = own (controlFor b c) c l x refl in reached-at (coveredBy b on) (controlFor b c) (netOf (b .cell c)) d (covers b on (controlFor b c) (netOf (b .cell c)) (rw e at (t .1)) d))
-      (λ (e : meets b (t .0) (controlFor b c) ≡ true). let n = meets-net b (t .0) (controlFor b c) e in reached-at (coveredBy b on) (controlFor b c) (n .0) (n .3) (covers b on (t .0) (n .0) (t .1) (n .2)))
+      (λ (e : t .0 ≡ controlFor b c). let d = own c l x in reached-at on (controlFor b c) (controlFor b c) (netOf (b .cell c)) (rw e at (t .1)) d d)
+      (λ (e : meets b (t .0) (controlFor b c) ≡ true). let n = meets-net b (t .0) (controlFor b c) e in reached-at on (controlFor b c) (t .0) (n .0) (t .1) (n .2) (n .3))
       (t .2))
       (reached-marked on (controlFor b c))

@@ -1,5 +1,5 @@
--- Laws of one position of a pass and of a pass, over the sets that hold what is on.
-use Prim.Native.Nat.{ℕ, zero, suc, _+_, _-_, _<_, _≤_}
+-- Laws of one position of a pass and of a group, over the sets that hold what is on.
+use Prim.Native.Nat.{ℕ, zero, suc, _-_, _*_, _<_, _≤_}
 use mathlib.Core.Path.{_≡_, refl, sym, _∙_, ap, subst, fun-ext}
 use mathlib.Core.Bool.{Bool, true, false, cond, not, _&&_, _||_, and-false}
 use mathlib.Core.List.{List, [], _∷_}
@@ -9,24 +9,24 @@ use lib.Dec.{eqb}
 use lib.ListN.{getD}
 use Rattle.rules.specs.Basics.{has}
 use Rattle.rules.specs.File.{Board, boardOf, cellsOf, netsOf, netOf}
-use Rattle.rules.specs.Drivers.{controlled, controlFor, drives}
+use Rattle.rules.specs.Drivers.{controlled, drives}
 use Rattle.rules.specs.Groups.{marked, turn, pass, firstPass, secondPass, selected, earlier, group, onIn}
 use Rattle.rules.specs.declared.Net.{Net}
 use Rattle.rules.specs.declared.Position.{Position}
 use Rattle.rules.proofs.Acceptance.{kept-net}
-use Rattle.rules.proofs.Shape.{whole-records}
+use Rattle.rules.proofs.Shape.{laid, shaped, whole-records}
 use Rattle.rules.proofs.Tests.{or-left}
 use Rattle.rules.proofs.Passes.{has-append}
-use Rattle.words.specs.Sets.{member, nothing, either, plus}
+use Rattle.words.specs.Sets.{netWords, member, nothing, either, plus, meetsIn}
 use Rattle.board.specs.declared.drivers.Driver.the-variants.{Of, Nothing}
 use Rattle.board.specs.Driving.{driverIn}
 use Rattle.board.proofs.Drives.{is-driver, no-driver, net-below}
 use Rattle.select.specs.declared.turns.Pass.{Pass}
 use Rattle.select.specs.declared.turns.Pass.the-variants.{First, Second}
 use Rattle.select.specs.declared.turns.Turned.{Turned}
-use Rattle.select.specs.Turns.{wantedAt, wantedIn, allowedIn, coveredBy, listed, reached, Holds, Ready}
+use Rattle.select.specs.Turns.{wantedAt, wantedIn, allowedIn, coveredBy, reached, joined, listed, Holds, Ready}
 use Rattle.select.proofs.Largest.{degree-held}
-use Rattle.select.proofs.Marking.{marked-reached}
+use Rattle.select.proofs.Marking.{covered-marked, marked-reached}
 
 -- one cell more is on
 pub on-grown : (f g : ℕ → Bool) (on : List ℕ) (k : ℕ) → f ≡ listed on → g ≡ plus f k → g ≡ listed (k ∷ on)
@@ -39,9 +39,28 @@ unfolding coveredBy
 covered-grown b nets f g on k n e h =
     fun-ext (λ m. ap (λ (s : ℕ → Bool). s m) h ∙ ap (λ (s : ℕ → Bool). s m || f m) n ∙ ap (λ (s : ℕ → Bool). drives b k m || s m) e)
 
+-- its nets decide whether it joins
+module _ (b : Board) (nets f : ℕ → Bool) (on : List ℕ) (k : ℕ) (r : Bool) (n : nets ≡ drives b k) (e : f ≡ coveredBy b on) (h : r ≡ meetsIn (64 * netWords) nets f) where
+  told : (a : Bool) → r ≡ a → reached b on k ≡ a
+  unfolding reached
+  told a t =
+      ap (λ (s : ℕ → Bool). meetsIn (64 * netWords) s (coveredBy b on)) (sym n) ∙ ap (meetsIn (64 * netWords) nets) (sym e) ∙ sym h ∙ t
+
+  pub not-joined : r ≡ true → on ≡ joined b on k
+  unfolding joined
+  not-joined t = rw (told true t)
+
+  pub joins : r ≡ false → (k ∷ on) ≡ joined b on k
+  unfolding joined
+  joins t = rw (told false t)
+
 -- sets that hold one list hold the same list under another name
 pub holds-same : {b : Board} {state : Turned} {on now : List ℕ} → on ≡ now → Holds b on state → Holds b now state
 holds-same {b} {state} e h = subst (λ (l : List ℕ). Holds b l state) e h
+
+cond-not : {A : Type 0} (x y : A) (r : Bool) → cond (not r) x y ≡ cond r y x
+cond-not x y true = refl
+cond-not x y false = refl
 
 -- what one position does, by what stands there
 module _ (b : Board) (wanted allowed : ℕ → Bool) (c : ℕ) (on : List ℕ) where
@@ -64,8 +83,9 @@ module _ (b : Board) (wanted allowed : ℕ → Bool) (c : ℕ) (on : List ℕ) w
     pub turn-marked : marked b on (k .0) ≡ true → on ≡ turn b wanted allowed c on
     turn-marked m = sym (turn-is ∙ rw (m, and-false (wanted (n .0) && allowed (k .0))))
 
-    pub turn-on : wanted (n .0) ≡ true → allowed (k .0) ≡ true → marked b on (k .0) ≡ false → (k .0 ∷ on) ≡ turn b wanted allowed c on
-    turn-on w a m = sym (turn-is ∙ rw (w, a, m))
+    pub turn-joins : wanted (n .0) ≡ true → allowed (k .0) ≡ true → marked b on (k .0) ≡ reached b on (k .0) → joined b on (k .0) ≡ turn b wanted allowed c on
+    unfolding joined
+    turn-joins w a m = sym (turn-is ∙ rw (w, a, m) (cond-not (k .0 ∷ on) on (reached b on (k .0))))
 
 -- what the tables and the sets say of a driver of an accepted board
 module _ (file heads links counts : List ℕ) (ready : Ready file heads links counts) (c : ℕ) (l : c < cellsOf file) (k : Position) (n : Net) (e : driverIn (boardOf file .cell c) ≡ Of k n) where
@@ -74,26 +94,26 @@ module _ (file heads links counts : List ℕ) (ready : Ready file heads links co
   wanted-told which g held r a h w t =
       ap (wantedAt which g) (sym (h ∙ degree-held file heads links counts ready (n .0) (net-below file (ready .by-control .checked) c l k n e))) ∙ sym w ∙ t
 
-  pub marked-told : (on : List ℕ) (f : ℕ → Bool) (r a : Bool) → f ≡ coveredBy (boardOf file) on → r ≡ reached (boardOf file) f (k .0) → r ≡ a → marked (boardOf file) on (k .0) ≡ a
+  -- its nets are below 256, so whether its control cell is marked is told by its nets
+  known : (x : ℕ) → x < cellsOf file → controlled (boardOf file) x ≡ true → netOf (boardOf file .cell x) < netsOf file
   unfolding boardOf
-  marked-told on f r a h w t =
+  known x m q = kept-net file (whole-records file (ready .by-control .checked)) x m (or-left _ q)
+
+  few : netsOf file ≤ 64 * netWords
+  few = let f = laid file (shaped file (ready .by-control .checked)) .nets .few in omega arith
+
+  pub marked-told : (on : List ℕ) (f : ℕ → Bool) (r : Bool) → f ≡ coveredBy (boardOf file) on → r ≡ f (n .0) → r ≡ true → marked (boardOf file) on (k .0) ≡ true
+  unfolding boardOf
+  marked-told on f r h w t =
       let d = is-driver (boardOf file) c k n e in
-      let m = marked-reached (boardOf file) known on c l (d .0) in
-      ap (marked (boardOf file) on) (sym (d .1)) ∙ m ∙ ap (reached (boardOf file) (coveredBy (boardOf file) on)) (d .1) ∙ ap (λ (s : ℕ → Bool). reached (boardOf file) s (k .0)) (sym h) ∙ sym w ∙ t
-    where
-      known : (x : ℕ) → x < cellsOf file → controlled (boardOf file) x ≡ true → netOf (boardOf file .cell x) < netsOf file
-      known x m q = kept-net file (whole-records file (ready .by-control .checked)) x m (or-left _ q)
+      let m = covered-marked (boardOf file) few known on c l (d .0) (ap (coveredBy (boardOf file) on) (d .2) ∙ ap (λ (s : ℕ → Bool). s (n .0)) (sym h) ∙ sym w ∙ t) in
+      ap (marked (boardOf file) on) (sym (d .1)) ∙ m
 
--- the pass, from position c on down
-pub pass-end : (b : Board) (wanted allowed : ℕ → Bool) (c : ℕ) (on : List ℕ) → c ≤ 0 → pass b wanted allowed c on ≡ on
-unfolding pass
-pass-end b wanted allowed zero on h = refl
-pass-end b wanted allowed (suc c) on h = absurd (omega arith)
-
-pub pass-step : (b : Board) (wanted allowed : ℕ → Bool) (c : ℕ) (on : List ℕ) → 0 < c → pass b wanted allowed c on ≡ pass b wanted allowed (c - 1) (turn b wanted allowed (c - 1) on)
-unfolding pass
-pass-step b wanted allowed zero on h = absurd (omega arith)
-pass-step b wanted allowed (suc c) on h = rw sub-one
+  pub reached-told : (on : List ℕ) → marked (boardOf file) on (k .0) ≡ reached (boardOf file) on (k .0)
+  unfolding boardOf
+  reached-told on =
+      let d = is-driver (boardOf file) c k n e in
+      rw (d .1) at (marked-reached (boardOf file) few known on c l (d .0))
 
 -- a group at its start, and at its end
 pub holds-none : (b : Board) (state : Turned) → member (state .on .words) ≡ nothing → member (state .covered .words) ≡ nothing → Holds b [] state

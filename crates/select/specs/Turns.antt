@@ -1,15 +1,15 @@
 -- The two passes' tests, and what the sets of a pass hold: the control cells that are on, and their nets.
-use Prim.Native.Nat.{ℕ}
+use Prim.Native.Nat.{ℕ, _*_}
 use mathlib.Core.Path.{_≡_}
-use mathlib.Core.Bool.{Bool, true, false, not, _&&_, _||_}
+use mathlib.Core.Bool.{Bool, true, false, cond, not, _||_}
 use mathlib.Core.List.{List, [], _∷_}
-use lib.Dec.{ltb, leb, eqb}
-use Rattle.rules.specs.Basics.{any, has}
-use Rattle.rules.specs.File.{Board, cellsOf, netOf}
-use Rattle.rules.specs.Drivers.{controlled, controlFor, degree, drives}
+use lib.Dec.{ltb, leb}
+use Rattle.rules.specs.Basics.{has}
+use Rattle.rules.specs.File.{Board, cellsOf}
+use Rattle.rules.specs.Drivers.{degree, drives}
 use Rattle.rules.specs.Refusals.{judge, boardChecks}
 use Rattle.rules.specs.declared.Verdict.the-variants.{Accepted}
-use Rattle.words.specs.Sets.{member}
+use Rattle.words.specs.Sets.{netWords, member, meetsIn}
 use Rattle.board.specs.declared.chains.By.the-variants.{ControlCell}
 use Rattle.board.specs.Chains.{Chains}
 use Rattle.board.specs.Driving.{Counted}
@@ -30,18 +30,18 @@ unfoldable pub allowedIn : Pass → (ℕ → Bool) → ℕ → Bool
 allowedIn First used k = not (used k)
 allowedIn Second used k = true
 
--- the cell at c is a driver whose net is in f
-unfoldable pub onCovered : Board → (ℕ → Bool) → ℕ → Bool
-onCovered b f c = controlled b c && f (netOf (b .cell c))
-
--- a driver of control cell k has its net in f
-unfoldable pub reached : Board → (ℕ → Bool) → ℕ → Bool
-reached b f k = any (b .size) (λ c. controlled b c && eqb (controlFor b c) k && f (netOf (b .cell c)))
-
 -- the nets of the control cells that are on
 unfoldable pub coveredBy : Board → List ℕ → ℕ → Bool
 coveredBy b [] n = false
 coveredBy b (t ∷ on) n = drives b t n || coveredBy b on n
+
+-- one of control cell k's nets is covered
+unfoldable pub reached : Board → List ℕ → ℕ → Bool
+reached b on k = meetsIn (64 * netWords) (drives b k) (coveredBy b on)
+
+-- control cell k is on besides, unless one of its nets is covered
+unfoldable pub joined : Board → List ℕ → ℕ → List ℕ
+joined b on k = cond (reached b on k) on (k ∷ on)
 
 -- a list of cells, as a set
 abbrev pub listed : List ℕ → ℕ → Bool

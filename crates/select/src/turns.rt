@@ -1,14 +1,13 @@
 // One position of a pass, and a pass: the control cells that it turns on.
 ghost use mathlib.Core.Path.{_≡_};
-ghost use mathlib.Core.List.{List, _∷_};
+ghost use mathlib.Core.List.{List};
 ghost use Prim.Native.Nat.{ℕ, _<_, _*_};
-ghost use Rattle.rules.specs.File.{boardOf, cellsOf};
+ghost use Rattle.rules.specs.File.{Board, boardOf, cellsOf};
+ghost use Rattle.rules.specs.Drivers.{drives};
 ghost use Rattle.rules.specs.Groups.{turn, pass};
 ghost use Rattle.words.specs.Sets.{cellWords, member};
-ghost use Rattle.board.specs.declared.chains.By.the-variants.{ControlCell};
-ghost use Rattle.board.specs.Chains.{Chains};
-ghost use Rattle.board.specs.Whole.{Whole};
-ghost use Rattle.select.specs.Turns.{wantedAt, allowedIn, wantedIn, onCovered, reached, Ready, Holds};
+ghost use Rattle.select.specs.Turns.{wantedAt, allowedIn, wantedIn, joined, Ready, Holds};
+ghost use Rattle.select.specs.Highest.{Order};
 use board::cells::cell_at;
 use board::chains::held;
 use board::drivers::Driver;
@@ -52,48 +51,21 @@ fn allowed(which: Pass, earlier: CellSet, k: Position) -> bool
     }
 }
 
-// The cell at c is a driver, and its net is covered.
-fn on_covered(file: &[u8], c: usize, covered: NetSet) -> bool
-    requires { ⌜ Whole (now file) c ⌝ }
-    ensures { λ r. ⌜ r ≡ onCovered (boardOf (now (file .entry))) (member (covered .words)) c ⌝ }
+// With control cell k on besides, whose nets these are, unless one of them is covered.
+fn turn_on(k: Position, nets: NetSet, state: Turned) -> Turned
+    requires { ⌜ k .0 < 64 * cellWords ⌝ }
+    ensures { λ r. ⌜ ((b : Board) (on : List ℕ) → member (nets .words) ≡ drives b (k .0) → Holds b on state → Holds b (joined b on (k .0)) r) ⌝ }
 {
-    let driver = driver_of(cell_at(file, c));
-    let Driver::Of(_, n) = driver else {
-        return false;
-    };
-    covered.has(n)
-}
-
-// Some net of control cell k is covered.
-fn marked(file: &[u8], heads: &[u16], links: &[u16], k: usize, covered: NetSet) -> bool
-    requires { ⌜ Chains (now file) ControlCell (now heads) (now links) ⌝ }
-    requires { ⌜ k < cellsOf (now file) ⌝ }
-    ensures { λ r. ⌜ r ≡ reached (boardOf (now (file .entry))) (member (covered .words)) k ⌝ }
-{
-    let mut at = held(heads, k);
-    while 0 < at {
-        if on_covered(file, at - 1, covered) {
-            return true;
-        }
-        at = held(links, at - 1);
+    if nets.meets(state.covered) {
+        return state;
     }
-    false
-}
-
-// With control cell k on besides.
-fn turn_on(file: &[u8], heads: &[u16], links: &[u16], k: Position, state: Turned) -> Turned
-    requires { ⌜ Chains (now file) ControlCell (now heads) (now links) ⌝ }
-    requires { ⌜ k .0 < cellsOf (now file) ⌝ }
-    ensures { λ r. ⌜ ((on : List ℕ) → Holds (boardOf (now (file .entry))) on state → Holds (boardOf (now (file .entry))) (k .0 ∷ on) r) ⌝ }
-{
-    let nets = nets_of(file, heads, links, k.0 as usize);
     let on = state.on.with(k);
     let covered = nets.union(state.covered);
     Turned { on, covered }
 }
 
 // One position of a pass: at a driver whose net is wanted, whose control cell is allowed and
-// unmarked, that control cell is turned on.
+// unmarked, that control cell is turned on. Where its own net is covered, it is marked.
 fn turn(
     file: &[u8],
     heads: &[u16],
@@ -115,35 +87,38 @@ fn turn(
     };
     if wanted(which, g, held(counts, n.0 as usize)) {
         if allowed(which, earlier, k) {
-            if marked(file, heads, links, k.0 as usize, state.covered) {
+            if state.covered.has(n) {
                 return state;
             }
-            return turn_on(file, heads, links, k, state);
+            let nets = nets_of(file, heads, links, k.0 as usize);
+            return turn_on(k, nets, state);
         }
     }
     state
 }
 
-// A pass, from the highest position down.
+// A pass over the highest drivers, from the highest down: at no other does it turn anything on.
 pub(crate) fn run_pass(
     file: &[u8],
     heads: &[u16],
     links: &[u16],
     counts: &[u16],
+    order: &[u16],
+    found: usize,
     which: Pass,
     g: usize,
     earlier: CellSet,
-    cells: usize,
     first: Turned,
 ) -> Turned
     requires { ⌜ Ready (now file) (now heads) (now links) (now counts) ⌝ }
-    requires { ⌜ cells ≡ cellsOf (now file) ⌝ }
-    ensures { λ r. ⌜ ((on : List ℕ) → Holds (boardOf (now (file .entry))) on first → Holds (boardOf (now (file .entry))) (pass (boardOf (now (file .entry))) (wantedIn (boardOf (now (file .entry))) which g) (allowedIn which (member (earlier .words))) cells on) r) ⌝ }
+    requires { ⌜ Order (now file) (now order) found ⌝ }
+    ensures { λ r. ⌜ ((on : List ℕ) → Holds (boardOf (now (file .entry))) on first → Holds (boardOf (now (file .entry))) (pass (boardOf (now (file .entry))) (wantedIn (boardOf (now (file .entry))) which g) (allowedIn which (member (earlier .words))) (cellsOf (now (file .entry))) on) r) ⌝ }
 {
     let mut state = first;
-    let mut c = cells;
-    while 0 < c {
-        c -= 1;
+    let mut i = found;
+    while 0 < i {
+        i -= 1;
+        let c = held(order, i);
         state = turn(file, heads, links, counts, which, g, earlier, c, state);
     }
     state

@@ -1,13 +1,13 @@
--- Laws of bounds: what some, each, how many and the lowest of the numbers below m are, told by those below a smaller n.
-use Prim.Native.Nat.{ℕ, zero, suc, _+_, _-_, _≤_, _<_, min}
+-- Laws of bounds: what some, each and how many of the numbers below m are, told by those below a smaller n.
+use Prim.Native.Nat.{ℕ, zero, suc, _+_, _-_, _≤_, _<_}
 use mathlib.Core.Path.{_≡_, _∙_, ap}
 use mathlib.Core.Logic.{⊎-elim}
 use mathlib.Core.Bool.{Bool, true, false, not, _&&_, _||_}
 use native.Mathlib.Nat.{add-zero, add-suc, add-assoc}
 use native.Mathlib.Omega.{arith}
-use Rattle.rules.specs.Basics.{digit, any, all, count, least}
-use Rattle.rules.proofs.Tests.{Lowest, same-test, order, clashes, any-at, any-member, all-at, all-from, count-none, least-lowest, least-at, least-none}
-use Rattle.words.specs.Sets.{meetsIn, insideIn, lieOf}
+use Rattle.rules.specs.Basics.{digit, any, all, count}
+use Rattle.rules.proofs.Tests.{same-test, order, clashes, any-at, any-member, all-at, all-from, count-none}
+use Rattle.words.specs.Sets.{meetsIn, insideIn}
 
 -- how many below n + m: those below n, and those from n on
 pub count-add : (n m : ℕ) (p : ℕ → Bool) → count (n + m) p ≡ count n p + count m (λ i. p (n + i))
@@ -42,30 +42,7 @@ all-bound {n} {m} p h each =
     (λ e. all-from n p (λ i l. all-at m p e {i = i} (omega arith)))
     (λ e. all-from m p (λ i l. ⊎-elim (λ (k : i < n). all-at n p e k) (λ (k : n ≤ i). each i k l) (order i n)))
 
--- the lowest below n is the lowest below m, cut at n; where one below n passes it is below n, and the two are the same
-pub least-cut : {n m : ℕ} (p : ℕ → Bool) → n ≤ m → least n p ≡ min n (least m p)
-least-cut {n} {m} p h = go (least m p) (least-lowest m p)
-  where
-    go : (k : ℕ) → Lowest p 0 m k → least n p ≡ min n k
-    go k s =
-        ⊎-elim
-        (λ (l : k < n). least-at n p l (s .passes (omega arith)) (λ j q. s .lower j (omega arith) q) ∙ omega arith)
-        (λ (l : n ≤ k). least-none n p (λ j q. s .lower j (omega arith) (omega arith)) ∙ omega arith)
-        (order k n)
-
-pub least-some : (n : ℕ) (p : ℕ → Bool) → any n p ≡ true → least n p < n
-least-some n p e =
-    let a = any-member n p e in
-    let s = least-lowest n p in
-    ⊎-elim
-    (λ (q : least n p < n). q)
-    (λ (q : n ≤ least n p). absurd (clashes (a .2) (s .lower (a .0) (omega arith) (omega arith))))
-    (order (least n p) n)
-
-pub least-bound : {n m : ℕ} (p : ℕ → Bool) → n ≤ m → any n p ≡ true → least m p ≡ least n p
-least-bound {n} p h e = omega (arith, least-cut p h, least-some n p e)
-
--- how two sets lie below m is how they lie below n, where neither has a member from n on
+-- whether two sets meet below m, or one holds the other, is so below n, where the one has no member from n on
 module _ {n m : ℕ} (f g : ℕ → Bool) (h : n ≤ m) (none : (i : ℕ) → n ≤ i → i < m → f i ≡ false) where
   pub meets-bound : meetsIn m f g ≡ meetsIn n f g
   unfolding meetsIn
@@ -74,7 +51,3 @@ module _ {n m : ℕ} (f g : ℕ → Bool) (h : n ≤ m) (none : (i : ℕ) → n 
   pub inside-bound : insideIn m f g ≡ insideIn n f g
   unfolding insideIn
   inside-bound = all-bound (λ i. not (f i) || g i) h (λ i l k. ap (λ (x : Bool). not x || g i) (none i l k))
-
-pub lie-bound : {n m : ℕ} (f g : ℕ → Bool) → n ≤ m → ((i : ℕ) → n ≤ i → i < m → f i ≡ false) → ((i : ℕ) → n ≤ i → i < m → g i ≡ false) → lieOf m f g ≡ lieOf n f g
-unfolding lieOf
-lie-bound f g h nf ng = rw (inside-bound f g h nf, inside-bound g f h ng, meets-bound f g h nf)

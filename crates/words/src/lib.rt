@@ -4,13 +4,13 @@
 ghost use mathlib.Core.Path.{_≡_};
 ghost use mathlib.Core.Bool.{xor};
 ghost use Prim.Native.Nat.{_*_, _-_, _<_, _≤_};
-ghost use Rattle.rules.specs.Basics.{count, seek, least};
+ghost use Rattle.rules.specs.Basics.{count, seek};
 ghost use Rattle.rules.specs.Vectors.{among};
 ghost use Rattle.words.specs.Sets.{netWords, cellWords, member, nothing, plus, either, unlike, meetsIn, insideIn, lieOf};
 use rules::Net;
 use rules::Position;
 
-mod core;
+pub mod core;
 
 // How many words hold a set of nets, and a set of cells.
 pub const NET_WORDS: usize = 4;
@@ -124,14 +124,6 @@ impl NetSet {
         let mut words = self.words;
         core::keep_lowest(&mut words, k);
         NetSet { words }
-    }
-
-    // The lowest net, or 64 * NET_WORDS where the set is empty.
-    pub fn first(self) -> usize
-        ensures { λ r. ⌜ r ≡ least (64 * netWords) (member (self .words)) ⌝ }
-    {
-        let words = self.words;
-        core::next(&words, 0)
     }
 }
 

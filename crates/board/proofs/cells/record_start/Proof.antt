@@ -1,4 +1,4 @@
--- The definition, read off.
+-- A block is 8 bytes longer than its 84 records, so the two ways to count agree.
 use borrow.Author.Needs.{needs}
 use Rattle.rules.specs.File.{recordAt, blockAt}
 use Rattle.board.proofs.cells.record_start.Statement.{statement}
@@ -10,4 +10,4 @@ returns c = search needs
 
 pub record-start-spec : {M : Type 1} → statement M
 record-start-spec =
-    tie.close (tie.spec (λ c. search needs) (λ c. search needs) (λ c. search needs) (λ c. search needs) (λ c. search needs) returns)
+    tie.close (tie.spec (λ c. search needs) (λ c. search needs) (λ c. search needs) (λ c. search needs) returns)

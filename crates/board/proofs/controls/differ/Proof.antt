@@ -9,13 +9,14 @@ use native.Mathlib.Omega.{arith}
 use lib.Dec.{eqb}
 use lib.ListN.{getD}
 use Rattle.rules.specs.File.{Board, boardOf, cellsOf}
-use Rattle.rules.proofs.Tests.{left, both, not-fails, any-none}
+use Rattle.rules.proofs.Tests.{left, both, not-fails}
 use Rattle.board.specs.declared.chains.By.the-variants.{ControlCell}
 use Rattle.board.specs.Chains.{keyed, Chains}
 use Rattle.board.specs.Controls.{driversAt}
 use Rattle.board.proofs.Chaining.{Walking}
-use Rattle.board.proofs.Walks.{cell-in, head-low, link-low, from-head, step, on-chain, hit, missed}
+use Rattle.board.proofs.Walks.{cell-in, head-low, link-low, from-head, step, on-chain, hit, missed, none-keyed}
 use Rattle.board.proofs.ControlChecks.{known, other, other-keyed, unequal-by, unequal-empty}
+use Rattle.board.proofs.Brought.{keyed-controlled}
 use Rattle.board.proofs.controls.differ.Statement.{statement}
 use Rattle.board.proofs.controls.differ.Tie as tie
 
@@ -25,11 +26,6 @@ tells b k first c r key e z = both key (not-fails (ne-eqb _ _ (λ q. z (e ∙ q)
 
 agrees : (b : Board) (k first c r : ℕ) → keyed b ControlCell k c ≡ true → r ≡ driversAt b c → r ≡ first → (keyed b ControlCell k c && not (eqb (driversAt b c) first)) ≡ false
 agrees b k first c r key e z = rw (key, eq-eqb (driversAt b c) first (sym e ∙ z))
-
--- an empty chain
-empty : (file heads links : List ℕ) (k at : ℕ) → Chains file ControlCell heads links → k < cellsOf file → at ≡ getD heads k 0 → at ≡ 0 → (c : ℕ) → c < cellsOf file → keyed (boardOf file) ControlCell k c ≡ false
-empty file heads links k at ch l e z c m =
-    any-none _ _ (missed file ControlCell heads links ch k (keyed (boardOf file) ControlCell k) (λ d h. h) _ _ (from-head file ControlCell heads links ch k _ (λ d h. h) (cell-in file heads links k ch l) at e) (omega arith)) m
 
 abbrev Inv-loop : tie.InvT-loop
 Inv-loop file heads links counts k at₀ first at =
@@ -44,7 +40,7 @@ held-requires c κs = let p = c .before .before .before .before .pre in cell-in 
 returns : tie.Need-returns Inv-loop μ-loop
 returns c =
     let p = c .before .before .before .before .before .before .pre in
-    unequal-empty _ (p .0 .by-control .checked) _ (empty _ _ _ _ _ (p .0 .by-control) (p .1) (c .before .held .ensures) (c .if1 .taken))
+    unequal-empty _ (p .0 .by-control .checked) _ (none-keyed _ _ _ _ (p .0 .by-control) _ (cell-in _ _ _ _ (p .0 .by-control) (p .1)) (sym (c .before .held .ensures) ∙ c .if1 .taken))
 
 -- the first of the chain is on the board
 some : (file heads links : List ℕ) (k at : ℕ) → Chains file ControlCell heads links → k < cellsOf file → at ≡ getD heads k 0 → (at ≡ 0 → ⊥) → (at ≤ cellsOf file) × (0 < at)
@@ -55,8 +51,11 @@ some file heads links k at ch l e z =
 drivers-at-requires : tie.Need-drivers-at-requires Inv-loop μ-loop
 drivers-at-requires c κs =
     let p = c .before .before .before .before .before .before .pre in
-    let s = some _ _ _ _ _ (p .0 .by-control) (p .1) (c .before .held .ensures) (c .if1 .left) in
-    (p .0 .counted, omega arith)
+    let ch = p .0 .by-control in
+    let e = c .before .held .ensures in
+    let s = some _ _ _ _ _ ch (p .1) e (c .if1 .left) in
+    let on = on-chain _ _ _ _ ch _ _ (λ d h. h) _ _ (from-head _ _ _ _ ch _ _ (λ d h. h) (cell-in _ _ _ _ ch (p .1)) _ e) (s .1) in
+    (p .0 .counted, (omega arith, keyed-controlled _ _ _ on))
 
 loop-holds : tie.Need-loop-holds Inv-loop μ-loop
 loop-holds c =
@@ -69,9 +68,11 @@ loop-holds c =
 
 drivers-at-requires-2 : tie.Need-drivers-at-requires-2 Inv-loop μ-loop
 drivers-at-requires-2 c κs =
+    let p = c .before .before .before .before .before .before .before .before .before .pre .0 in
     let i = c .before .loop .inv .0 in
     let t = c .loop-test .taken in
-    (c .before .before .before .before .before .before .before .before .before .pre .0 .counted, omega arith)
+    let on = on-chain _ _ _ _ (p .by-control) _ _ (λ d h. left _ _ h) _ _ (c .before .loop .inv .5) t in
+    (p .counted, (omega arith, keyed-controlled _ _ _ on))
 
 returns-2 : tie.Need-returns-2 Inv-loop μ-loop
 returns-2 c =

@@ -16,8 +16,8 @@ Inv-loop file heads links nets n₀ n = Searched (netsOf file) (clashing (boardO
 abbrev μ-loop : tie.MeasureT-loop
 μ-loop file heads links nets n₀ n = nets - n
 
-clashes-requires : tie.Need-clashes-requires Inv-loop μ-loop
-clashes-requires c κs =
+net-clashes-requires : tie.Need-net-clashes-requires Inv-loop μ-loop
+net-clashes-requires c κs =
     let p = c .before .before .before .before .before .pre in
     let e = p .1 in
     let t = c .loop-test .taken in
@@ -35,13 +35,13 @@ returns : tie.Need-returns Inv-loop μ-loop
 returns c =
     let e = c .before .before .before .before .before .before .before .before .pre .1 in
     let t = c .before .before .before .loop-test .taken in
-    c .refuse .ensures ∙ sym (found 8 [] (c .before .before .before .before .loop .inv) (omega arith) (sym (c .before .before .clashes .ensures) ∙ c .before .if1 .taken))
+    c .refuse .ensures ∙ sym (found 8 [] (c .before .before .before .before .loop .inv) (omega arith) (sym (c .before .before .net-clashes .ensures) ∙ c .before .if1 .taken))
 
 loop-again : tie.Need-loop-again Inv-loop μ-loop
 loop-again c =
     let e = c .before .before .before .before .before .before .before .pre .1 in
     let t = c .before .before .loop-test .taken in
-    search-next (c .before .before .before .loop .inv) (omega arith) (sym (c .before .clashes .ensures) ∙ c .if1 .left)
+    search-next (c .before .before .before .loop .inv) (omega arith) (sym (c .before .net-clashes .ensures) ∙ c .if1 .left)
 
 returns-2 : tie.Need-returns-2 Inv-loop μ-loop
 returns-2 c =
@@ -52,4 +52,4 @@ returns-2 c =
 pub clash-verdict-spec : {M : Type 1} → statement M
 clash-verdict-spec =
     tie.close
-    (tie.spec Inv-loop μ-loop (λ c. search-start _ _) clashes-requires refuse-requires returns (λ c. omega arith) (λ c. omega arith) loop-again returns-2)
+    (tie.spec Inv-loop μ-loop (λ c. search-start _ _) net-clashes-requires refuse-requires returns (λ c. omega arith) (λ c. omega arith) loop-again returns-2)

@@ -9,22 +9,22 @@ use Rattle.board.specs.declared.chains.By.the-variants.{NetOf}
 use Rattle.board.specs.Chains.{keyed}
 use Rattle.board.proofs.Walks.{net-in, head-low, link-low}
 use Rattle.board.proofs.Gathering.{Gathered, gather-start, gather-on, gather-next, gather-ended}
-use Rattle.board.proofs.Brought.{brings, brings-net, control-grown, all-controls}
+use Rattle.board.proofs.Brought.{bringsAbove, brings-net, control-grown, all-controls}
 use Rattle.board.proofs.sharing.add_controls.Statement.{statement}
 use Rattle.board.proofs.sharing.add_controls.Tie as tie
 
 abbrev Inv-loop : tie.InvT-loop
-Inv-loop file heads links n more₀ at₀ more at =
-    (at ≤ cellsOf file) × Gathered (keyed (boardOf file) NetOf n) (λ j. brings (boardOf file) j n) (member (more₀ .words)) (member (more .words)) (cellsOf file) at
+Inv-loop file heads links n low more₀ at₀ more at =
+    (at ≤ cellsOf file) × Gathered (keyed (boardOf file) NetOf n) (bringsAbove (boardOf file) low n) (member (more₀ .words)) (member (more .words)) (cellsOf file) at
 
 abbrev μ-loop : tie.MeasureT-loop
-μ-loop file heads links n more₀ at₀ more at = at
+μ-loop file heads links n low more₀ at₀ more at = at
 
 loop-holds : tie.Need-loop-holds Inv-loop μ-loop
 loop-holds c =
     let p = c .before .before .before .before .pre in
     let l = net-in _ _ _ _ (p .0) (p .1) in
-    ((let h = head-low _ _ _ _ (p .0) _ l in let e = c .held .ensures in omega arith), gather-start _ _ _ _ (p .0) _ _ (brings-net _ _) l _ _ (c .held .ensures))
+    ((let h = head-low _ _ _ _ (p .0) _ l in let e = c .held .ensures in omega arith), gather-start _ _ _ _ (p .0) _ _ (brings-net _ _ _) l _ _ (c .held .ensures))
 
 add-control-requires : tie.Need-add-control-requires Inv-loop μ-loop
 add-control-requires c κs =
@@ -54,12 +54,12 @@ loop-again c =
     let e = c .held2 .ensures in
     let low = link-low _ _ _ _ ch (c .before .before .before .loop .at - 1) in
     let under = inv .0 in
-    let on = gather-on _ _ _ _ ch _ _ (brings-net _ _) _ (inv .1) t in
-    (omega arith, gather-next _ _ _ _ ch _ _ (brings-net _ _) _ _ _ (inv .1) t (λ j. ap (λ (f : ℕ → Bool). f j) (c .before .add-control .ensures) ∙ control-grown _ _ _ _ on j) e)
+    let on = gather-on _ _ _ _ ch _ _ (brings-net _ _ _) _ (inv .1) t in
+    (omega arith, gather-next _ _ _ _ ch _ _ (brings-net _ _ _) _ _ _ (inv .1) t (λ j. ap (λ (f : ℕ → Bool). f j) (c .before .add-control .ensures) ∙ control-grown _ _ _ _ _ on j) e)
 
 returns : tie.Need-returns Inv-loop μ-loop
 returns c =
-    all-controls _ _ _ _ (gather-ended _ _ _ _ (c .before .before .before .before .before .before .pre .0) _ _ (brings-net _ _) _ (c .before .loop .inv .1) (c .loop-test .left))
+    all-controls _ _ _ _ _ (gather-ended _ _ _ _ (c .before .before .before .before .before .before .pre .0) _ _ (brings-net _ _ _) _ (c .before .loop .inv .1) (c .loop-test .left))
 
 pub add-controls-spec : {M : Type 1} → statement M
 add-controls-spec =

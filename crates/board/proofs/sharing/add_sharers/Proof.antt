@@ -7,7 +7,7 @@ use Rattle.board.proofs.sharing.add_sharers.Statement.{statement}
 use Rattle.board.proofs.sharing.add_sharers.Tie as tie
 
 returns : tie.Need-returns
-returns c = no-sharers _ _ _ (driver-is _ _ _ _ (c .before .before .before .cell-at .ensures) (c .before .before .driver-of .ensures) (c .enum-told .given .1))
+returns c = no-sharers _ _ _ (driver-is _ _ _ _ (c .before .before .before .cell-at .ensures) (c .before .before .driver-of .ensures) (c .enum-told .given .1)) _
 
 add-controls-requires : tie.Need-add-controls-requires
 add-controls-requires c κs =
@@ -16,7 +16,7 @@ add-controls-requires c κs =
 
 returns-2 : tie.Need-returns-2
 returns-2 c =
-    c .add-controls .ensures ∙ its-sharers _ _ _ _ _ (driver-is _ _ _ _ (c .before .before .before .before .before .before .cell-at .ensures) (c .before .before .before .before .before .driver-of .ensures) (c .before .before .before .driver .given .1))
+    c .add-controls .ensures ∙ its-sharers _ _ _ _ _ (driver-is _ _ _ _ (c .before .before .before .before .before .before .cell-at .ensures) (c .before .before .before .before .before .driver-of .ensures) (c .before .before .before .driver .given .1)) _
 
 pub add-sharers-spec : {M : Type 1} → statement M
 add-sharers-spec =

@@ -11,13 +11,13 @@ use Rattle.board.specs.declared.chains.By.the-variants.{ControlCell}
 use Rattle.board.specs.Chains.{keyed}
 use Rattle.board.proofs.Walks.{cell-in, head-low, link-low}
 use Rattle.board.proofs.Gathering.{Gathered, gather-start, gather-on, gather-next, gather-ended}
-use Rattle.board.proofs.Brought.{shares, shares-control, sharers-grown, all-sharers}
+use Rattle.board.proofs.Brought.{sharesAbove, shares-control, sharers-grown, all-sharers}
 use Rattle.board.proofs.sharing.partners.Statement.{statement}
 use Rattle.board.proofs.sharing.partners.Tie as tie
 
 abbrev Inv-loop : tie.InvT-loop
 Inv-loop file heads links net-heads net-links k set₀ at₀ set at =
-    (at ≤ cellsOf file) × Gathered (keyed (boardOf file) ControlCell k) (shares (boardOf file) k) nothing (member (set .words)) (cellsOf file) at
+    (at ≤ cellsOf file) × Gathered (keyed (boardOf file) ControlCell k) (sharesAbove (boardOf file) k) nothing (member (set .words)) (cellsOf file) at
 
 abbrev μ-loop : tie.MeasureT-loop
 μ-loop file heads links net-heads net-links k set₀ at₀ set at = at

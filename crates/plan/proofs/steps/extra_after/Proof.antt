@@ -1,8 +1,8 @@
 -- There is a next base vector, or none is inserted.
-use mathlib.Core.Path.{_∙_, sym}
+use mathlib.Core.Path.{_∙_}
 use native.Mathlib.Omega.{arith}
-use borrow.Author.Needs.{needs}
-use Rattle.plan.proofs.Stepping.{size-low, changes-low, extra-some, extra-none}
+use Rattle.plan.proofs.Stepping.{size-low, extra-none}
+use Rattle.plan.proofs.Repeating.{full-is}
 use Rattle.plan.proofs.steps.extra_after.Statement.{statement}
 use Rattle.plan.proofs.steps.extra_after.Tie as tie
 
@@ -16,19 +16,11 @@ mul-if1 c =
     let p = c .before .pre in
     omega (arith, size-low _ (p .0))
 
-inserted-requires : tie.Need-inserted-requires
-inserted-requires c κs =
-    let s = c .before .before .before .pre .0 in
-    (rw (c .changes .ensures) (changes-low _ s _), s .limited, s .low)
-
 returns : tie.Need-returns
-returns c =
-    c .inserted .ensures ∙ extra-some _ _ _ (c .before .before .if1 .taken) (c .before .changes .ensures)
+returns c = c .full-after .ensures ∙ full-is _ _ (c .before .if1 .taken)
 
 returns-2 : tie.Need-returns-2
 returns-2 c = extra-none _ _ (c .if1 .left)
 
 pub extra-after-spec : {M : Type 1} → statement M
-extra-after-spec =
-    tie.close
-    (tie.spec add-if1 mul-if1 (λ c κs. c .before .before .pre) inserted-requires returns returns-2)
+extra-after-spec = tie.close (tie.spec add-if1 mul-if1 (λ c κs. c .before .before .pre) returns returns-2)

@@ -1,53 +1,31 @@
--- What is left of t is its place in part i.
-use Prim.Native.Nat.{_+_, _*_, _-_, _≤_, _<_}
-use mathlib.Core.Path.{_≡_, sym, _∙_, ap}
-use native.Mathlib.Omega.{arith}
-use borrow.Author.Needs.{needs}
-use Rattle.rules.specs.Vectors.{insertedAfter}
+-- t is in turn t / round, and there vector t % round.
+use Prim.Native.Nat.{ℕ}
+use mathlib.Core.Path.{_∙_, ap}
+use native.Mathlib.Nat.{div-add-mod', mod-lt}
+use lib.ListN.{getD}
+use Rattle.rules.specs.Vectors.{stepsOf}
+use Rattle.rules.specs.declared.Step.the-variants.{Base}
 use Rattle.plan.specs.Plans.{basesFor}
-use Rattle.plan.proofs.Stepping.{size, size-low, size-some, start, start-zero, start-next, step-on, step-base, step-inserted}
+use Rattle.plan.proofs.Repeating.{round-some}
 use Rattle.plan.proofs.steps.step_at.Statement.{statement}
 use Rattle.plan.proofs.steps.step_at.Tie as tie
 
-abbrev Inv-loop : tie.InvT-loop
-Inv-loop plan t i₀ left₀ extra₀ i left extra =
-    (i < size plan) × (start plan i + left ≡ t) × (extra ≡ insertedAfter (basesFor plan) i)
+div-step-in : tie.Need-div-step-in
+div-step-in c = rw (c .round .ensures) (round-some _ (c .before .pre .0))
 
-abbrev μ-loop : tie.MeasureT-loop
-μ-loop plan t i₀ left₀ extra₀ i left extra = left
+rem-step-in : tie.Need-rem-step-in
+rem-step-in c = rw (c .round .ensures) (round-some _ (c .before .pre .0))
 
-loop-holds : tie.Need-loop-holds Inv-loop μ-loop
-loop-holds c =
-    let s = c .before .pre .0 in
-    (size-some _ s, rw (start-zero (c .before .args .plan)) (omega arith), c .extra-after .ensures)
+step-in-requires : tie.Need-step-in-requires
+step-in-requires c κs =
+    let p = c .before .pre in
+    let e = c .round .ensures in
+    (p .0, (rw e (mod-lt _ (round-some _ (p .0))), rw (e, div-add-mod') (p .1)))
 
-extra-after-requires-2 : tie.Need-extra-after-requires-2 Inv-loop μ-loop
-extra-after-requires-2 c κs =
-    let p = c .before .before .before .pre in
-    let inv = c .before .loop .inv in
-    (p .0, step-on _ _ _ _ (p .1) (inv .0) (inv .1) (rw (← inv .2) (c .loop-test .taken)))
-
-loop-again : tie.Need-loop-again Inv-loop μ-loop
-loop-again c =
-    let p = c .before .before .before .before .pre in
-    let inv = c .before .before .loop .inv in
-    let t = c .before .loop-test .taken in
-    let next = start-next (c .before .before .before .before .args .plan) (c .before .before .loop .i) in
-    let at = inv .1 in
-    let e = inv .2 in
-    (step-on _ _ _ _ (p .1) (inv .0) (inv .1) (rw (← inv .2) t), omega arith, c .extra-after2 .ensures)
-
-returns : tie.Need-returns Inv-loop μ-loop
+returns : tie.Need-returns
 returns c =
-    let inv = c .before .before .loop .inv in
-    step-base _ _ _ _ (inv .0) (inv .1) (c .if1 .taken)
-
-returns-2 : tie.Need-returns-2 Inv-loop μ-loop
-returns-2 c =
-    let inv = c .before .before .loop .inv in
-    step-inserted _ _ _ _ (inv .0) (inv .1) (c .if1 .left) (rw (← inv .2) (c .before .loop-test .left))
+    c .step-in .ensures
+    ∙ ap (λ (t : ℕ). getD (stepsOf (basesFor (c .before .before .args .plan))) t (Base 0)) (rw (c .before .round .ensures) (div-add-mod' _ _))
 
 pub step-at-spec : {M : Type 1} → statement M
-step-at-spec =
-    tie.close
-    (tie.spec Inv-loop μ-loop (λ c κs. (c .pre .0, size-some _ (c .pre .0))) loop-holds (λ c. search needs) (λ c. omega (arith, c .loop-test .taken)) (λ c. omega (arith, c .before .loop .inv .0, size-low _ (c .before .before .before .pre .0))) extra-after-requires-2 (λ c. omega (arith, c .before .loop-test .taken)) loop-again returns returns-2)
+step-at-spec = tie.close (tie.spec (λ c κs. c .pre .0) div-step-in rem-step-in step-in-requires returns)

@@ -6,7 +6,7 @@ use borrow.Author.Needs.{needs}
 use Rattle.plan.proofs.Stepping.{extra-low}
 use Rattle.readings.specs.Readings.{startOf, codeFrom, Mapped}
 use Rattle.readings.proofs.Mapping.{mapped-id, mapped-same, mapped-low}
-use Rattle.readings.proofs.Lasting.{starts-none, starts-next, row-inside, place-low}
+use Rattle.readings.proofs.Places.{starts-none, starts-next, rowed, row-scanned, place-low}
 use Rattle.readings.proofs.Decoding.{first-below, first-in, code-low, code-none, code-more, code-all}
 use Rattle.readings.proofs.codes.read_codes.Statement.{statement}
 use Rattle.readings.proofs.codes.read_codes.Tie as tie
@@ -25,7 +25,7 @@ mul-add-row : tie.Need-mul-add-row Inv-loop μ-loop
 mul-add-row c =
     let p = c .before .before .before .before .before .pre .0 in
     let inv = c .before .before .loop .inv in
-    let m = place-low _ _ _ _ p _ (first-in _ _ _ (p .small) (c .if1 .taken) (inv .1)) in
+    let m = place-low _ _ _ (rowed _ _ _ _ p) _ (first-in _ _ _ (p .small) (c .if1 .taken) (inv .1)) in
     omega arith
 
 add-row-requires : tie.Need-add-row-requires Inv-loop μ-loop
@@ -35,7 +35,7 @@ add-row-requires c κs =
     let l = inv .0 in
     let n = p .0 .narrow in
     let nine : c .before .before .before .loop .j ≤ 9 = omega arith in
-    (row-inside _ _ _ _ (p .0) _ (first-in _ _ _ (p .0 .small) (c .before .if1 .taken) (inv .1)), mapped-low 16383 0 (p .1) (λ x e z. code-low _ _ _ _ x e nine z) (inv .2))
+    (row-scanned _ _ _ _ (p .0) _ (first-in _ _ _ (p .0 .small) (c .before .if1 .taken) (inv .1)), mapped-low 16383 0 (p .1) (λ x e z. code-low _ _ _ _ x e nine z) (inv .2))
 
 extra-after-requires : tie.Need-extra-after-requires Inv-loop μ-loop
 extra-after-requires c κs = let p = c .before .before .before .before .before .before .before .before .before .pre .0 in (p .small, first-below _ _ (p .small) (c .before .before .before .before .if1 .taken))

@@ -35,8 +35,8 @@ cast-result : tie.Need-cast-result
 cast-result c = record { fits = rw low-byte (omega arith) }
 
 returns : tie.Need-returns
-returns c = byte-cells (c .before .args .set .words) (c .before .args .j)
+returns c = byte-cells (c .before .args .words .now) (c .before .args .j)
 
 pub row-byte-spec : {M : Type 1} → statement M
 row-byte-spec =
-    tie.close (tie.spec (λ c. search needs) (λ c. search needs) (λ c. search needs) (λ c. search needs) cast-result returns)
+    tie.close (tie.spec (λ c. search needs) (λ c. omega (arith, c .before .pre)) (λ c. search needs) (λ c. search needs) cast-result returns)

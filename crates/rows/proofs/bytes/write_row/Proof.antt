@@ -14,7 +14,7 @@ use lib.Seq.{paste, paste-zero, paste-suc, take-length}
 use Rattle.rules.specs.Basics.{ceil, word, rowBytes, rowByte, rowOf}
 use Rattle.rules.proofs.Tests.{order}
 use Rattle.rules.proofs.Digits.{word-same, table-at, row-length}
-use Rattle.words.specs.Sets.{member}
+use Rattle.words.specs.Sets.{cellWords, member}
 use Rattle.rows.specs.Rows.{placed, Cells}
 use Rattle.rows.proofs.bytes.write_row.Statement.{statement}
 use Rattle.rows.proofs.bytes.write_row.Tie as tie
@@ -50,29 +50,29 @@ own-byte cells f own j l =
         (order c cells)
 
 abbrev Inv-loop : tie.InvT-loop
-Inv-loop out₀ at cells set count j₀ out j = (j ≤ count) × Begun (rowOf cells (member (set .words))) at out₀ j out
+Inv-loop out₀ at cells count words j₀ out j = (j ≤ count) × Begun (rowOf cells (member words)) at out₀ j out
 
 abbrev μ-loop : tie.MeasureT-loop
-μ-loop out₀ at cells set count j₀ out j = count - j
+μ-loop out₀ at cells count words j₀ out j = count - j
 
-loop-holds : tie.Need-loop-holds Inv-loop μ-loop
-loop-holds c = (omega arith, begun-none _ _ _)
-
+-- a row has no more bytes than a set of cells
 row-byte-requires : tie.Need-row-byte-requires Inv-loop μ-loop
 unfolding rowBytes ceil
-row-byte-requires c κs = omega arith
+row-byte-requires c κs =
+    let e : length (c .before .before .before .before .before .before .args .set .words) ≡ cellWords = search needs in
+    omega (arith, c .before .loop-test .taken, c .before .before .before .before .row-bytes .ensures, c .before .before .before .before .before .before .pre .0 .few)
 
 loop-again : tie.Need-loop-again Inv-loop μ-loop
 loop-again c =
-    let start = c .before .before .before .before .before in
+    let start = c .before .before .before .before .before .before .before in
     let cells = start .args .cells in
     let f = member (start .args .set .words) in
     let r = row-length cells f in
-    (omega arith, begun-more _ _ _ (c .before .before .loop .inv .1) (omega arith) (omega arith) _ (c .row-byte .ensures ∙ own-byte cells f (start .pre .1) _ (omega arith)))
+    (omega arith, begun-more _ _ _ (c .before .before .before .loop .inv .1) (omega arith) (omega arith) _ (c .row-byte .ensures ∙ own-byte cells f (start .pre .1) _ (omega arith)))
 
 returns : tie.Need-returns Inv-loop μ-loop
 returns c =
-    let a = c .before .before .before .before .args in
+    let a = c .before .before .before .before .before .args in
     let r = row-length (a .cells) (member (a .set .words)) in
     begun-all _ _ _ (c .before .loop .inv .1) (omega arith)
 
@@ -80,5 +80,5 @@ pub write-row-spec : {M : Type 1} → statement M
 write-row-spec =
     tie.close
     (tie.spec Inv-loop μ-loop
-    (λ c κs. search needs) loop-holds row-byte-requires (λ c. search needs) (λ c. search needs) (λ c. search needs) (λ c. search needs)
+    (λ c κs. search needs) (λ c. (omega arith, begun-none _ _ _)) (λ c. search needs) row-byte-requires (λ c. search needs) (λ c. search needs) (λ c. search needs) (λ c. search needs)
     loop-again (λ c. search needs) returns)

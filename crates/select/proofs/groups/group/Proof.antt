@@ -1,49 +1,15 @@
--- The cells of groups 1 to j - 1, group by group.
-use Prim.Native.Nat.{_-_, _+_, _≤_, _<_}
-use mathlib.Core.Path.{_≡_, refl, sym, _∙_, ap}
-use native.Mathlib.Omega.{arith}
-use native.Mathlib.Nat.{add-sub-cancel}
+-- The function's own table has room for the highest drivers.
 use borrow.Author.Needs.{needs}
-use Rattle.rules.specs.File.{boardOf}
-use Rattle.rules.specs.Groups as Groups
-use Rattle.words.specs.Sets.{member}
-use Rattle.select.specs.Turns.{listed}
-use Rattle.select.proofs.Passing.{earlier-none, earlier-more, group-is}
+use Rattle.board.proofs.Blanks.{blank}
+use Rattle.select.specs.Highest.{mostHighest}
+use Rattle.select.proofs.Highest.{heads-of}
 use Rattle.select.proofs.groups.group.Statement.{statement}
 use Rattle.select.proofs.groups.group.Tie as tie
 
-abbrev Inv-loop : tie.InvT-loop
-Inv-loop file heads links counts cells g earlier₀ j₀ earlier j =
-    (0 < j) × (j ≤ g) × (member (earlier .words) ≡ listed (Groups.earlier (boardOf file) (j - 1)))
-
-abbrev μ-loop : tie.MeasureT-loop
-μ-loop file heads links counts cells g earlier₀ j₀ earlier j = g - j
-
-loop-holds : tie.Need-loop-holds Inv-loop μ-loop
-loop-holds c =
-    let l = c .before .before .before .before .before .pre .1 .1 in
-    (omega arith, omega arith, earlier-none _ _ (c .empty .ensures))
-
-selected-requires : tie.Need-selected-requires Inv-loop μ-loop
-selected-requires c κs = let p = c .before .before .before .before .before .before .before .pre in (p .0, p .1 .0)
-
-loop-again : tie.Need-loop-again Inv-loop μ-loop
-loop-again c =
-    let inv = c .before .before .before .loop .inv in
-    let l = inv .0 in
-    let t = c .before .before .loop-test .taken in
-    let more = earlier-more _ _ _ _ _ l (c .before .selected .ensures _ (inv .2)) (inv .2) (c .union .ensures) in
-    (omega arith, omega arith, rw (add-sub-cancel _ 1) more)
-
-returns : tie.Need-returns Inv-loop μ-loop
-returns c =
-    let inv = c .before .before .loop .inv in
-    let l = inv .1 in
-    let e : c .before .before .loop .j ≡ c .before .before .before .before .before .before .before .before .args .g = omega (arith, c .before .loop-test .left) in
-    let h = c .selected2 .ensures _ (inv .2) in
-    group-is _ _ _ (c .before .before .before .before .before .before .before .before .pre .1 .1) (rw e at h)
+fill-order-requires : tie.Need-fill-order-requires
+fill-order-requires c κs = let p = c .before .before .before .before .before .pre in (heads-of _ _ _ _ (p .0), (p .1 .0, blank mostHighest))
 
 pub group-spec : {M : Type 1} → statement M
 group-spec =
     tie.close
-    (tie.spec Inv-loop μ-loop (λ c κs. search needs) loop-holds selected-requires (λ c κs. search needs) (λ c. omega arith) (λ c. omega arith) loop-again (λ c κs. let p = c .before .before .before .before .before .before .before .pre in (p .0, p .1 .0)) returns)
+    (tie.spec (λ c. search needs) fill-order-requires (λ c. search needs) (λ c κs. search needs) (λ c. search needs))

@@ -1,13 +1,10 @@
--- Each way out is one case of the position's test (turn-none to turn-on).
-use Prim.Native.Nat.{ℕ}
-use mathlib.Core.Path.{_≡_, sym, _∙_, ap}
-use mathlib.Core.List.{List}
+-- Each way out is one case of the position's test (turn-none to turn-joins).
+use mathlib.Core.Path.{sym, _∙_}
 use borrow.Author.Needs.{needs}
 use Rattle.board.proofs.Drives.{net-below, control-below}
-use Rattle.board.proofs.Sets.{driver-is, control-fits}
-use Rattle.select.specs.Turns.{Holds}
+use Rattle.board.proofs.Sets.{driver-is, net-fits, control-fits}
 use Rattle.select.proofs.Largest.{count-in}
-use Rattle.select.proofs.Passing.{holds-same, turn-none, turn-unwanted, turn-barred, turn-marked, turn-on, wanted-told, marked-told}
+use Rattle.select.proofs.Passing.{holds-same, turn-none, turn-unwanted, turn-barred, turn-marked, turn-joins, wanted-told, marked-told, reached-told}
 use Rattle.select.proofs.turns.turn.Statement.{statement}
 use Rattle.select.proofs.turns.turn.Tie as tie
 
@@ -25,30 +22,35 @@ allowed-requires c κs =
     let p = c .before .before .before .before .before .before .before .before .before .before .before .before .before .pre in
     control-fits _ _ (record { checked = p .0 .by-control .checked; below = p .1 }) _ _ (driver-is _ _ _ _ (c .before .before .before .before .before .before .before .before .cell-at .ensures) (c .before .before .before .before .before .before .before .driver-of .ensures) (c .before .before .before .before .before .driver .given .1))
 
-marked-requires : tie.Need-marked-requires
-marked-requires c κs =
-    let p = c .before .before .before .before .before .before .before .before .before .before .before .before .before .before .before .before .pre in
-    (p .0 .by-control, control-below _ (p .0 .by-control .checked) _ (p .1) _ _ (driver-is _ _ _ _ (c .before .before .before .before .before .before .before .before .before .before .before .cell-at .ensures) (c .before .before .before .before .before .before .before .before .before .before .driver-of .ensures) (c .before .before .before .before .before .before .before .before .driver .given .1)))
+has-requires : tie.Need-has-requires
+has-requires c κs =
+    let p = c .before .before .before .before .before .before .before .before .before .before .before .before .before .before .before .pre in
+    net-fits _ _ (record { checked = p .0 .by-control .checked; below = p .1 }) _ _ (driver-is _ _ _ _ (c .before .before .before .before .before .before .before .before .before .before .cell-at .ensures) (c .before .before .before .before .before .before .before .before .before .driver-of .ensures) (c .before .before .before .before .before .before .before .driver .given .1))
 
 returns-2 : tie.Need-returns-2
 returns-2 c on h =
-    let p = c .before .before .before .before .before .before .before .before .before .before .before .before .before .before .before .before .before .before .pre in
-    let e = driver-is _ _ _ _ (c .before .before .before .before .before .before .before .before .before .before .before .before .before .cell-at .ensures) (c .before .before .before .before .before .before .before .before .before .before .before .before .driver-of .ensures) (c .before .before .before .before .before .before .before .before .before .before .driver .given .1) in
-    holds-same (turn-marked _ _ _ _ on _ _ e (marked-told _ _ _ _ (p .0) _ (p .1) _ _ e on _ _ _ (h .covered-are) (c .before .marked .ensures) (c .if3 .taken))) h
+    let p = c .before .before .before .before .before .before .before .before .before .before .before .before .before .before .before .before .before .pre in
+    let e = driver-is _ _ _ _ (c .before .before .before .before .before .before .before .before .before .before .before .before .cell-at .ensures) (c .before .before .before .before .before .before .before .before .before .before .before .driver-of .ensures) (c .before .before .before .before .before .before .before .before .before .driver .given .1) in
+    holds-same (turn-marked _ _ _ _ on _ _ e (marked-told _ _ _ _ (p .0) _ (p .1) _ _ e on _ _ (h .covered-are) (c .before .has .ensures) (c .if3 .taken))) h
 
-turn-on-requires : tie.Need-turn-on-requires
-turn-on-requires c κs =
+nets-of-requires : tie.Need-nets-of-requires
+nets-of-requires c κs =
     let p = c .before .before .before .before .before .before .before .before .before .before .before .before .before .before .before .before .before .before .pre in
     (p .0 .by-control, control-below _ (p .0 .by-control .checked) _ (p .1) _ _ (driver-is _ _ _ _ (c .before .before .before .before .before .before .before .before .before .before .before .before .before .cell-at .ensures) (c .before .before .before .before .before .before .before .before .before .before .before .before .driver-of .ensures) (c .before .before .before .before .before .before .before .before .before .before .driver .given .1)))
 
+turn-on-requires : tie.Need-turn-on-requires
+turn-on-requires c κs =
+    let p = c .before .before .before .before .before .before .before .before .before .before .before .before .before .before .before .before .before .before .before .pre in
+    control-fits _ _ (record { checked = p .0 .by-control .checked; below = p .1 }) _ _ (driver-is _ _ _ _ (c .before .before .before .before .before .before .before .before .before .before .before .before .before .before .cell-at .ensures) (c .before .before .before .before .before .before .before .before .before .before .before .before .before .driver-of .ensures) (c .before .before .before .before .before .before .before .before .before .before .before .driver .given .1))
+
 returns-3 : tie.Need-returns-3
 returns-3 c on h =
-    let p = c .before .before .before .before .before .before .before .before .before .before .before .before .before .before .before .before .before .before .before .pre in
-    let e = driver-is _ _ _ _ (c .before .before .before .before .before .before .before .before .before .before .before .before .before .before .cell-at .ensures) (c .before .before .before .before .before .before .before .before .before .before .before .before .before .driver-of .ensures) (c .before .before .before .before .before .before .before .before .before .before .before .driver .given .1) in
-    let w = wanted-told _ _ _ _ (p .0) _ (p .1) _ _ e _ _ _ _ _ (c .before .before .before .before .before .before .before .before .held .ensures) (c .before .before .before .before .before .before .before .wanted .ensures) (c .before .before .before .before .before .before .if1 .taken) in
-    let a = sym (c .before .before .before .before .before .allowed .ensures) ∙ c .before .before .before .before .if2 .taken in
-    let m = marked-told _ _ _ _ (p .0) _ (p .1) _ _ e on _ _ _ (h .covered-are) (c .before .before .marked .ensures) (c .before .if3 .left) in
-    holds-same (turn-on _ _ _ _ on _ _ e w a m) (c .turn-on .ensures on h)
+    let p = c .before .before .before .before .before .before .before .before .before .before .before .before .before .before .before .before .before .before .before .before .pre in
+    let e = driver-is _ _ _ _ (c .before .before .before .before .before .before .before .before .before .before .before .before .before .before .before .cell-at .ensures) (c .before .before .before .before .before .before .before .before .before .before .before .before .before .before .driver-of .ensures) (c .before .before .before .before .before .before .before .before .before .before .before .before .driver .given .1) in
+    let w = wanted-told _ _ _ _ (p .0) _ (p .1) _ _ e _ _ _ _ _ (c .before .before .before .before .before .before .before .before .before .held .ensures) (c .before .before .before .before .before .before .before .before .wanted .ensures) (c .before .before .before .before .before .before .before .if1 .taken) in
+    let a = sym (c .before .before .before .before .before .before .allowed .ensures) ∙ c .before .before .before .before .before .if2 .taken in
+    let m = reached-told _ _ _ _ (p .0) _ (p .1) _ _ e on in
+    holds-same (turn-joins _ _ _ _ on _ _ e w a m) (c .turn-on .ensures _ on (c .before .nets-of .ensures) h)
 
 returns-4 : tie.Need-returns-4
 returns-4 c on h =
@@ -63,4 +65,4 @@ returns-5 c on h =
 pub turn-spec : {M : Type 1} → statement M
 turn-spec =
     tie.close
-    (tie.spec (λ c κs. let p = c .before .before .before .before .pre in record { checked = p .0 .by-control .checked; below = p .1 }) (λ c κs. search needs) (λ c. search needs) (λ c. search needs) returns (λ c. search needs) held-requires (λ c κs. search needs) allowed-requires (λ c. search needs) marked-requires returns-2 turn-on-requires returns-3 returns-4 returns-5)
+    (tie.spec (λ c κs. let p = c .before .before .before .before .pre in record { checked = p .0 .by-control .checked; below = p .1 }) (λ c κs. search needs) (λ c. search needs) (λ c. search needs) returns (λ c. search needs) held-requires (λ c κs. search needs) allowed-requires has-requires returns-2 (λ c. search needs) nets-of-requires turn-on-requires returns-3 returns-4 returns-5)

@@ -1,0 +1,70 @@
+-- Vector by vector: where each stands in the capture, and the values of its nets.
+use Prim.Native.Nat.{ℕ, zero, suc, _+_, _*_, _-_, _≤_, _<_}
+use mathlib.Core.Path.{_≡_, refl, sym, _∙_, ap}
+use mathlib.Core.Bool.{Bool}
+use mathlib.Core.List.{List}
+use native.Mathlib.Nat.{suc-mul, le-trans, mul-le-mul-left, mul-le-mul-right, one-mul}
+use native.Mathlib.Numerals.{add-one}
+use native.Mathlib.Omega.{arith}
+use lib.ListN.{length}
+use Rattle.rules.specs.Basics.{ceil, rowBytes}
+use Rattle.rules.specs.Vectors.{insertedAfter, between, weave, stepsOf, vectorOf}
+use Rattle.rules.specs.declared.Step.the-variants.{Base}
+use Rattle.plan.specs.declared.steps.Plan.{Plan}
+use Rattle.plan.specs.Plans.{basesFor, mix, Small}
+use Rattle.plan.proofs.Mixing.{value-at}
+use Rattle.plan.proofs.Stepping.{size, start, start-zero, start-next, start-end}
+use Rattle.readings.specs.Readings.{valueAt, startOf, Scanned, Captured, Rowed, Part}
+
+-- where the parts start
+pub start-is : (p : Plan) (i : ℕ) → startOf p i ≡ start p i
+unfolding startOf
+start-is p i = refl
+
+pub starts-none : (p : Plan) → 0 ≡ startOf p 0
+starts-none p = sym (start-is p 0 ∙ start-zero p)
+
+pub starts-next : (p : Plan) (i t extra : ℕ) → t ≡ startOf p i → extra ≡ insertedAfter (basesFor p) i → t + (1 + extra) ≡ startOf p (i + 1)
+starts-next p i t extra e h = omega (arith, e, h, start-is p i, start-is p (i + 1), start-next p i)
+
+pub starts-end : (p : Plan) (i t : ℕ) → t ≡ startOf p i → i ≡ size p → t ≡ length (stepsOf (basesFor p))
+starts-end p i t e h = e ∙ start-is p i ∙ ap (start p) h ∙ start-end p
+
+-- the parts up to i are no longer than all
+start-low : (p : Plan) (left i : ℕ) → i + left ≡ size p → start p i ≤ length (stepsOf (basesFor p))
+start-low p zero i e = let s : i ≡ size p = omega arith in rw s (omega (arith, start-end p))
+start-low p (suc left) i e = let r = start-low p left (i + 1) (omega arith) in omega (arith, start-next p i)
+
+-- so a vector of part i is one of the plan
+pub part-below : (p : Plan) (i k t : ℕ) → i < size p → t ≡ startOf p i → k ≤ insertedAfter (basesFor p) i → t + k < length (stepsOf (basesFor p))
+part-below p i k t l e h =
+    let r = start-low p (size p - (i + 1)) (i + 1) (omega arith) in
+    omega (arith, start-next p i, e, start-is p i)
+
+-- the row of vector t lies in the capture, and its place is a small number
+pub rowed : (p : Plan) (capture : List ℕ) (cells bytes : ℕ) → Captured p capture cells bytes → Rowed p capture bytes
+unfolding rowBytes ceil
+rowed p capture cells bytes k =
+    record { small = k .small; short = (let f = k .few in omega (arith, k .bytes-are)); vectors = k .vectors; rows-are = k .rows-are }
+
+module _ (p : Plan) (capture : List ℕ) (bytes : ℕ) (k : Rowed p capture bytes) where
+  pub row-inside : (t : ℕ) → t < length (stepsOf (basesFor p)) → t * bytes + bytes ≤ length capture
+  row-inside t l =
+      let m = mul-le-mul-right {m = suc t} {n = length (stepsOf (basesFor p))} bytes l in
+      omega (arith, suc-mul t bytes, k .rows-are)
+
+  pub place-low : (t : ℕ) → t < length (stepsOf (basesFor p)) → t * bytes ≤ 4096 * 128
+  place-low t l = let v = k .vectors in let low : t ≤ 4096 = omega arith in le-trans (mul-le-mul-left t (k .short)) (mul-le-mul-right 128 low)
+
+pub row-scanned : (p : Plan) (capture : List ℕ) (cells bytes : ℕ) → Captured p capture cells bytes → (t : ℕ) → t < length (stepsOf (basesFor p)) → Scanned capture (t * bytes) cells
+row-scanned p capture cells bytes k t l =
+    record { inside = omega (arith, row-inside p capture bytes (rowed p capture cells bytes k) t l, k .bytes-are) }
+
+-- the values of the k-th vector of a part
+pub part-value : (p : Plan) (i extra t k : ℕ) (old new f : ℕ → Bool) → Part p i extra t → k < 1 + extra → old ≡ basesFor p .value i → new ≡ basesFor p .value (i + 1) → f ≡ mix (k * p .limit) old new → f ≡ valueAt p (t + k)
+unfolding valueAt
+part-value p i extra t k old new f h l o n m =
+    value-at p (t + k) i k old new f (h .below) (omega (arith, h .start-is, start-is p i)) (omega (arith, h .extra-is)) o n m
+
+pub changed-low : (p : Plan) (k : ℕ) → Small p → k ≤ 256 → k * p .limit ≤ 256 * 65535
+changed-low p k s l = le-trans (mul-le-mul-right (p .limit) l) (mul-le-mul-left 256 (s .low))

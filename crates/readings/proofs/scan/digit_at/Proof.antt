@@ -1,0 +1,11 @@
+-- The byte shifted down by i, and its lowest digit, is digit i.
+use borrow.Author.Needs.{needs}
+use Rattle.words.proofs.Words.{read-digit}
+use Rattle.readings.proofs.scan.digit_at.Statement.{statement}
+use Rattle.readings.proofs.scan.digit_at.Tie as tie
+
+returns : tie.Need-returns
+returns c = read-digit (c .args .byte) (c .args .i)
+
+pub digit-at-spec : {M : Type 1} → statement M
+digit-at-spec = tie.close (tie.spec (λ c. search needs) (λ c. search needs) returns)
