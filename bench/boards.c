@@ -1,0 +1,312 @@
+/*
+ * boards.c - the reference boards of the benchmark. Each is made in the order of its positions: control cells with their outputs behind
+ * them, then the two-state outputs, then the input cells. Nothing is drawn at random, so that a count can be made again.
+ */
+#include "boards.h"
+
+#include <assert.h>
+#include <stdio.h>
+#include <string.h>
+
+enum { INTERNAL, INPUT, CONTROL, THREE_STATE, TWO_STATE };
+
+enum { NONE = 65535, BODY = 508, RECORDS_AT = 4, RECORD = 6, PER_BLOCK = 84 };
+
+/* ---------------------------------------------------------------- cells */
+
+static void add(struct board *b, unsigned kind, unsigned on, unsigned control, unsigned net)
+{
+    assert(b->size < RIGCANDLE_MOST_CELLS);
+    b->cell[b->size++] = (struct cell){(uint8_t)kind, (uint8_t)on, (uint16_t)control, (uint16_t)net};
+}
+
+/* A control cell, and behind it its outputs on these nets. */
+static void add_driver(struct board *b, unsigned on, unsigned first, unsigned width)
+{
+    unsigned control = b->size;
+    add(b, CONTROL, on, NONE, NONE);
+    for (unsigned net = first; net < first + width; net++)
+        add(b, THREE_STATE, 0, control, net);
+}
+
+/* A bus: as many control cells, each of which switches all these nets. */
+static void add_bus(struct board *b, unsigned drivers, unsigned first, unsigned width)
+{
+    for (unsigned i = 0; i < drivers; i++)
+        add_driver(b, i % 2, first, width);
+}
+
+static void add_always_on(struct board *b, unsigned first, unsigned end)
+{
+    for (unsigned net = first; net < end; net++)
+        add(b, TWO_STATE, 0, NONE, net);
+}
+
+/* Input cells up to this number of cells: of net 0, 1, .. N - 1, and again from net 0. */
+static void fill_with_inputs(struct board *b, unsigned size)
+{
+    for (unsigned i = 0; b->size < size; i++)
+        add(b, INPUT, 0, NONE, i % b->nets);
+}
+
+/* ---------------------------------------------------------------- boards */
+
+/* Document 01's board E. */
+static void make_e(struct board *b)
+{
+    add_driver(b, 1, 0, 2);
+    add_driver(b, 0, 0, 1);
+    add_driver(b, 1, 1, 1);
+    add_always_on(b, 2, 3);
+    fill_with_inputs(b, 11);
+}
+
+/* Three wide buses with 16, 8 and 4 drivers. */
+static void make_bus(struct board *b)
+{
+    add_bus(b, 16, 0, 32);
+    add_bus(b, 8, 32, 32);
+    add_bus(b, 4, 64, 16);
+    add_always_on(b, 80, 96);
+    fill_with_inputs(b, 1024);
+}
+
+/* Control cells that halve eight nets: one of 8, two of 4, four of 2, three times eight of 1; the other way round in every other tree. */
+static void add_tree(struct board *b, unsigned tree)
+{
+    static const unsigned width[] = {8, 4, 2, 1, 1, 1};
+    const unsigned levels = sizeof width / sizeof *width;
+    for (unsigned i = 0; i < levels; i++) {
+        unsigned level = tree % 2 == 0 ? i : levels - 1 - i;
+        for (unsigned first = 0; first < 8; first += width[level])
+            add_driver(b, i % 2, 8 * tree + first, width[level]);
+    }
+}
+
+static void make_nested(struct board *b)
+{
+    for (unsigned tree = 0; tree < 11; tree++)
+        add_tree(b, tree);
+    fill_with_inputs(b, 1024);
+}
+
+/* One control cell over all nets, and a control cell for each net. */
+static void make_cover(struct board *b)
+{
+    add_driver(b, 1, 0, b->nets);
+    for (unsigned net = 0; net < b->nets; net++)
+        add_driver(b, 0, net, 1);
+    fill_with_inputs(b, 1024);
+}
+
+/* One net with this many drivers, which is G; the other nets are always on. Nearly all other cells are input cells. */
+static void make_inputs(struct board *b, unsigned drivers)
+{
+    add_bus(b, drivers, 0, 1);
+    add_always_on(b, 1, b->nets);
+    fill_with_inputs(b, 1024);
+}
+
+/*
+ * For growth, with 128 cells for each unit: a unit has 8 nets with 8 drivers each and 8 nets that are always on. `buses` buses share the
+ * units' nets: as many as there are units, so that there are more of them, or one, so that it grows wider. SSOL is a quarter of the nets,
+ * so that vectors grow little more than p.
+ */
+static void make_growth(struct board *b, unsigned units, unsigned buses)
+{
+    unsigned width = 8 * units / buses;
+    for (unsigned i = 0; i < buses; i++)
+        add_bus(b, 8, width * i, width);
+    add_always_on(b, 8 * units, b->nets);
+    fill_with_inputs(b, 128 * units);
+}
+
+/* ---------------------------------------------------------------- source 000's table 6 */
+
+/*
+ * The table gives cells, nets and the largest degree, and nothing of control cells, input cells and the other degrees. Decided here: the
+ * nets are buses of eight. Components have one control cell for the whole bus or one for each half of it, in turn, since the source's
+ * section 1 speaks of both on one bus. The first bus has the largest degree, and the others get drivers in turn as long as each net keeps
+ * an input cell. What is left are more input cells. The source has no SSOL: it never binds.
+ */
+static const struct circuit {
+    unsigned cells;
+    unsigned nets;
+    unsigned degree;
+} table_6[] = {
+    {36, 16, 1}, {160, 36, 3}, {196, 52, 3}, {190, 66, 3}, {226, 82, 3}, {430, 100, 4},
+    {422, 134, 3}, {582, 130, 5}, {620, 166, 4}, {772, 196, 5}, {860, 200, 4}, {1012, 230, 5},
+};
+
+/* One component's outputs on the bus from this net on, unless there would be more than `most` cells. */
+static void add_component(struct board *b, unsigned turn, unsigned first, unsigned most)
+{
+    unsigned width = b->nets - first < 8 ? b->nets - first : 8;
+    if (b->size + width + 2 > most)
+        return;
+    if (turn % 2 == 1) {
+        add_driver(b, 1, first, width);
+    } else {
+        add_driver(b, 0, first, width / 2);
+        add_driver(b, 0, first + width / 2, width - width / 2);
+    }
+}
+
+static void make_circuit(struct board *b, const struct circuit *circuit)
+{
+    unsigned most = circuit->cells - circuit->nets;
+    for (unsigned turn = 0; turn < circuit->degree; turn++)
+        add_component(b, turn, 0, most);
+    for (unsigned turn = 0; turn < circuit->degree; turn++)
+        for (unsigned first = 8; first < b->nets; first += 8)
+            add_component(b, turn, first, most);
+    fill_with_inputs(b, circuit->cells);
+}
+
+/* ---------------------------------------------------------------- all boards */
+
+static struct board *begin(struct board *b, const char *name, unsigned number, unsigned nets, unsigned limit)
+{
+    memset(b, 0, sizeof *b);
+    if (number == 0)
+        snprintf(b->name, sizeof b->name, "%s", name);
+    else
+        snprintf(b->name, sizeof b->name, "%s-%u", name, number);
+    b->nets = nets;
+    b->limit = limit;
+    return b;
+}
+
+unsigned make_boards(struct board *boards)
+{
+    struct board *next = boards;
+    make_e(begin(next++, "e", 0, 3, 2));
+    make_bus(begin(next++, "bus", 0, 96, 8));
+    make_nested(begin(next++, "nested", 0, 88, 8));
+    make_cover(begin(next++, "cover", 0, 255, 8));
+    make_inputs(begin(next++, "limit", 0, 128, 2), 16);
+    make_inputs(begin(next++, "nets256", 0, 256, 2), 7);
+    make_inputs(begin(next++, "ssol1", 0, 256, 1), 3);
+    for (unsigned i = 0; i < sizeof table_6 / sizeof *table_6; i++)
+        make_circuit(begin(next++, "table6", i + 1, table_6[i].nets, RIGCANDLE_MOST_CELLS), &table_6[i]);
+    for (unsigned units = 1; units <= 8; units *= 2)
+        make_growth(begin(next++, "more", 128 * units, 16 * units, 4 * units), units, units);
+    for (unsigned units = 1; units <= 8; units *= 2)
+        make_growth(begin(next++, "wide", 128 * units, 16 * units, 4 * units), units, 1);
+    assert(next - boards <= MOST_BOARDS);
+    return (unsigned)(next - boards);
+}
+
+unsigned control_cells(const struct board *b)
+{
+    unsigned found = 0;
+    for (unsigned q = 0; q < b->size; q++)
+        found += b->cell[q].kind == CONTROL;
+    return found;
+}
+
+/* ---------------------------------------------------------------- the board file */
+
+static void put_u16(uint8_t *bytes, unsigned number)
+{
+    bytes[0] = (uint8_t)number;
+    bytes[1] = (uint8_t)(number >> 8);
+}
+
+static void seal(uint8_t *block)
+{
+    unsigned a = 1, b = 0;
+    for (unsigned i = 0; i < BODY; i++) {
+        a += block[i];
+        b += a;
+    }
+    put_u16(block + BODY, a);
+    put_u16(block + BODY + 2, b);
+}
+
+static void write_header(const struct board *b, uint8_t *block)
+{
+    memcpy(block, "\0\0\1\0BSIN\1", 9);
+    put_u16(block + 10, b->size);
+    put_u16(block + 12, b->nets);
+    put_u16(block + 14, b->limit);
+}
+
+static void write_record(const struct cell *cell, uint8_t *record)
+{
+    record[0] = cell->kind;
+    record[1] = cell->on;
+    put_u16(record + 2, cell->control);
+    put_u16(record + 4, cell->net);
+}
+
+size_t write_file(const struct board *b, uint8_t *file)
+{
+    unsigned blocks = 1 + (b->size + PER_BLOCK - 1) / PER_BLOCK;
+    memset(file, 0, blocks * RIGCANDLE_BLOCK_SIZE);
+    write_header(b, file);
+    for (unsigned q = 0; q < b->size; q++) {
+        uint8_t *block = file + (1 + q / PER_BLOCK) * RIGCANDLE_BLOCK_SIZE;
+        put_u16(block, 1 + q / PER_BLOCK);
+        block[2] = 2;
+        block[3]++;
+        write_record(&b->cell[q], block + RECORDS_AT + RECORD * (q % PER_BLOCK));
+    }
+    for (unsigned k = 0; k < blocks; k++)
+        seal(file + k * RIGCANDLE_BLOCK_SIZE);
+    return blocks * RIGCANDLE_BLOCK_SIZE;
+}
+
+/* ---------------------------------------------------------------- captures */
+
+static unsigned code_bit(unsigned net, unsigned patterns, unsigned k)
+{
+    return (net + 1) >> (patterns - 1 - k) & 1;
+}
+
+/* The nets that differ between pattern k, from 0, and the next, which is the first after the last. */
+static unsigned differing(const struct board *b, unsigned patterns, unsigned k)
+{
+    unsigned h = 0;
+    for (unsigned net = 0; net < b->nets; net++)
+        h += code_bit(net, patterns, k) != code_bit(net, patterns, (k + 1) % patterns);
+    return h;
+}
+
+/* The net values of the t-th vector inserted after pattern k; of pattern k itself for t = 0. */
+static void find_values(const struct board *b, unsigned patterns, unsigned k, unsigned t, uint8_t *values)
+{
+    unsigned left = t * b->limit;
+    for (unsigned net = 0; net < b->nets; net++) {
+        unsigned next = code_bit(net, patterns, (k + 1) % patterns);
+        values[net] = (uint8_t)code_bit(net, patterns, k);
+        if (values[net] != next && left > 0) {
+            values[net] = (uint8_t)next;
+            left--;
+        }
+    }
+}
+
+static void write_readings(const struct board *b, const uint8_t *values, unsigned further, uint8_t *row)
+{
+    memset(row, 0, (b->size + 7) / 8);
+    for (unsigned q = 0; q < b->size; q++)
+        if (b->cell[q].kind == INPUT && values[(b->cell[q].net + further) % b->nets])
+            row[q / 8] |= (uint8_t)(1u << (q % 8));
+}
+
+size_t write_capture(const struct board *b, unsigned groups, unsigned patterns, unsigned further, uint8_t *capture)
+{
+    uint8_t values[RIGCANDLE_MOST_NETS];
+    uint8_t *row = capture;
+    for (unsigned base = 0; base < groups * patterns; base++) {
+        unsigned k = base % patterns, h = differing(b, patterns, k);
+        unsigned inserted = h == 0 || base + 1 == groups * patterns ? 0 : (h + b->limit - 1) / b->limit - 1;
+        for (unsigned t = 0; t <= inserted; t++) {
+            find_values(b, patterns, k, t, values);
+            write_readings(b, values, further, row);
+            row += (b->size + 7) / 8;
+        }
+    }
+    return (size_t)(row - capture);
+}
