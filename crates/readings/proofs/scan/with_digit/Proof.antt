@@ -16,16 +16,16 @@ fits byte i h =
     let m = pow-mono {i = suc i} {j = 8} (omega (arith, h .0)) in
     rw (one-shifted 8 i (h .0)) (omega (arith, two-pow-succ i, h .1))
 
-set : (byte i : ℕ) (s : Bool) → i < 8 → s ≡ true → byte + 1 * 2 ^ i % 2 ^ 8 ≡ byte + digit s * 2 ^ i
-set byte i s h e = rw (e, one-shifted 8 i h) (omega arith)
+with-one : (byte i : ℕ) (s : Bool) → i < 8 → s ≡ true → byte + 1 * 2 ^ i % 2 ^ 8 ≡ byte + digit s * 2 ^ i
+with-one byte i s h e = rw (e, one-shifted 8 i h) (omega arith)
 
-unset : (byte i : ℕ) (s : Bool) → s ≡ false → byte ≡ byte + digit s * 2 ^ i
-unset byte i s e = rw e (omega arith)
+with-none : (byte i : ℕ) (s : Bool) → s ≡ false → byte ≡ byte + digit s * 2 ^ i
+with-none byte i s e = rw e (omega arith)
 
 returns : tie.Need-returns
-returns c = set (c .before .args .byte) (c .before .args .i) _ (c .before .pre .0) (c .if1 .taken)
+returns c = with-one (c .before .args .byte) (c .before .args .i) _ (c .before .pre .0) (c .if1 .taken)
 
 pub with-digit-spec : {M : Type 1} → statement M
 with-digit-spec =
     tie.close
-    (tie.spec (λ c. search needs) (λ c. search needs) (λ c. record { fits = let h = fits (c .before .args .byte) (c .before .args .i) (c .before .pre) in omega arith }) returns (λ c. unset (c .before .args .byte) (c .before .args .i) _ (c .if1 .left)))
+    (tie.spec (λ c. search needs) (λ c. search needs) (λ c. record { fits = let h = fits (c .before .args .byte) (c .before .args .i) (c .before .pre) in omega arith }) returns (λ c. with-none (c .before .args .byte) (c .before .args .i) _ (c .if1 .left)))
