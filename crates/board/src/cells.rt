@@ -117,7 +117,7 @@ fn record_of(file: &[u8], cells: usize, nets: usize, p: usize) -> Record
 }
 
 // Refusal 6: a record breaks the table, at the lowest position.
-pub fn records_verdict(file: &[u8], cells: usize, nets: usize) -> Verdict
+pub(crate) fn records_verdict(file: &[u8], cells: usize, nets: usize) -> Verdict
     requires { ⌜ Shaped (now file) ⌝ }
     requires { ⌜ Sized (now file) cells nets ⌝ }
     ensures { λ r. ⌜ r ≡ judge (each 6 (cellsOf (now (file .entry))) (brokenAt (now (file .entry))) ∷ []) ⌝ }
@@ -153,7 +153,7 @@ pub fn cell_at(file: &[u8], p: usize) -> Cell
 }
 
 // The net at position p of a whole file, or 65,535: what a walk along drivers needs of their records.
-pub fn net_at(file: &[u8], p: usize) -> usize
+pub(crate) fn net_at(file: &[u8], p: usize) -> usize
     requires { ⌜ Whole (now file) p ⌝ }
     ensures { λ r. ⌜ r ≡ netOf (boardOf (now (file .entry)) .cell p) ⌝ }
 {

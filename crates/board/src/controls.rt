@@ -243,7 +243,7 @@ fn driven_below(heads: &[u16], i: usize) -> usize
 }
 
 // Refusal 10: the lowest control cell that crosses a higher one, from the highest place down.
-pub fn crossed_verdict(
+pub(crate) fn crossed_verdict(
     file: &[u8],
     heads: &[u16],
     links: &[u16],
@@ -326,7 +326,7 @@ fn driven_from(heads: &[u16], from: usize, to: usize) -> usize
 }
 
 // Refusal 11: the lowest control cell whose nets differ in number of controlled drivers.
-pub fn unequal_verdict(
+pub(crate) fn unequal_verdict(
     file: &[u8],
     heads: &[u16],
     links: &[u16],

@@ -150,7 +150,7 @@ fn clash_verdict(file: &[u8], heads: &[u16], links: &[u16], nets: usize) -> Verd
 }
 
 // Refusals 7 to 9, over the chains of outputs by net and the counts of drivers.
-pub fn nets_verdict(
+pub(crate) fn nets_verdict(
     file: &[u8],
     heads: &[u16],
     links: &[u16],

@@ -92,7 +92,7 @@ fn add_sharers(
 }
 
 // The control cells above k that share a net with it.
-pub fn partners(
+pub(crate) fn partners(
     file: &[u8],
     heads: &[u16],
     links: &[u16],

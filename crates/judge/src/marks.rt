@@ -107,7 +107,7 @@ fn untested() -> Tests
 }
 
 // The three tests of each net, by what every cell read.
-pub fn collect(file: &[u8], table: &[u16], cells: usize) -> Tests
+pub(crate) fn collect(file: &[u8], table: &[u16], cells: usize) -> Tests
     requires { ⌜ Readings (now file) (now table) ⌝ }
     requires { ⌜ cells ≡ cellsOf (now file) ⌝ }
     ensures { λ r. ⌜ Tested (boardOf (now (file .entry))) (now (table .entry)) r ⌝ }
@@ -182,7 +182,7 @@ fn count_byte(counts: Counts, byte: u8) -> Counts
 }
 
 // The mark bytes of all nets, in the buffer from its start on, and how many there are of which kind.
-pub fn write_marks(out: &mut [u8], nets: usize, tests: Tests) -> Counts
+pub(crate) fn write_marks(out: &mut [u8], nets: usize, tests: Tests) -> Counts
     requires { ⌜ nets ≤ length (now out) ⌝ }
     requires { ⌜ nets ≤ 64 * netWords ⌝ }
     ensures { λ r. ⌜ Marked tests nets (now (out .entry)) (now (out .exit)) r ⌝ }

@@ -72,7 +72,7 @@ fn cut(word: u64, w: usize, nets: usize) -> u64
 }
 
 // Pattern j + 1 of `wide`: the nets below `nets` whose bit is 1.
-pub fn pattern(nets: usize, wide: usize, j: usize) -> NetSet
+pub(crate) fn pattern(nets: usize, wide: usize, j: usize) -> NetSet
     requires { ⌜ (j < wide) × (wide ≤ 64) × (nets ≤ 64 * netWords) ⌝ }
     ensures { λ r. ⌜ member (r .words) ≡ upTo nets (codeBit wide j) ⌝ }
 {
@@ -86,7 +86,7 @@ pub fn pattern(nets: usize, wide: usize, j: usize) -> NetSet
 }
 
 // "ceil(h / SSOL) - 1 vectors are inserted (none for h = 0)".
-pub fn inserted(changes: usize, limit: usize) -> usize
+pub(crate) fn inserted(changes: usize, limit: usize) -> usize
     requires { ⌜ (changes ≤ 64 * netWords) × (1 ≤ limit) × (limit ≤ 65535) ⌝ }
     ensures { λ r. ⌜ r ≡ ceil changes limit - 1 ⌝ }
 {

@@ -59,7 +59,7 @@ pub fn extra_after(plan: Plan, i: usize) -> usize
 }
 
 // The number of vectors of one round of the patterns where another follows it. Each pattern is taken once.
-pub fn round(plan: Plan) -> usize
+pub(crate) fn round(plan: Plan) -> usize
     requires { ⌜ Small plan ⌝ }
     ensures { λ r. ⌜ r ≡ roundOf plan ⌝ }
 {

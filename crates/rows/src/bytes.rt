@@ -25,7 +25,7 @@ fn row_byte(words: &[u64], j: usize) -> u8
 }
 
 // The row of a set of cells, in the buffer from `at` on.
-pub fn write_row(out: &mut [u8], at: usize, cells: usize, set: CellSet)
+pub(crate) fn write_row(out: &mut [u8], at: usize, cells: usize, set: CellSet)
     requires { ⌜ Room (now out) at cells ⌝ }
     requires { ⌜ Cells cells (member (set .words)) ⌝ }
     ensures { λ r. ⌜ now (out .exit) ≡ placed at (rowOf cells (member (set .words))) (now (out .entry)) ⌝ }

@@ -12,7 +12,7 @@ ghost use Rattle.words.specs.Sets.{member, plus, either, unlike, meetsIn
 use super::Lie;
 
 // Number i is a member.
-pub fn has(words: &[u64], i: usize) -> bool
+pub(crate) fn has(words: &[u64], i: usize) -> bool
     requires { ⌜ i < 64 * length (now words) ⌝ }
     ensures { λ r. ⌜ r ≡ member (now (words .entry)) i ⌝ }
 {
@@ -30,7 +30,7 @@ pub fn add(words: &mut [u64], i: usize)
 }
 
 // The members of `from` become members of `into`.
-pub fn join(into: &mut [u64], from: &[u64])
+pub(crate) fn join(into: &mut [u64], from: &[u64])
     requires { ⌜ Alike (now into) (now from) ⌝ }
     ensures { λ r. ⌜ member (now (into .exit)) ≡ either (member (now (into .entry))) (member (now (from .entry))) ⌝ }
 {
@@ -42,7 +42,7 @@ pub fn join(into: &mut [u64], from: &[u64])
 }
 
 // The members of `from` change sides: those of `into` leave it, the others become members.
-pub fn flip(into: &mut [u64], from: &[u64])
+pub(crate) fn flip(into: &mut [u64], from: &[u64])
     requires { ⌜ Alike (now into) (now from) ⌝ }
     ensures { λ r. ⌜ member (now (into .exit)) ≡ unlike (member (now (into .entry))) (member (now (from .entry))) ⌝ }
 {
@@ -54,7 +54,7 @@ pub fn flip(into: &mut [u64], from: &[u64])
 }
 
 // Some number is a member of both.
-pub fn meets(a: &[u64], b: &[u64]) -> bool
+pub(crate) fn meets(a: &[u64], b: &[u64]) -> bool
     requires { ⌜ Alike (now a) (now b) ⌝ }
     ensures { λ r. ⌜ r ≡ meetsIn (64 * length (now (a .entry))) (member (now (a .entry))) (member (now (b .entry))) ⌝ }
 {
@@ -69,7 +69,7 @@ pub fn meets(a: &[u64], b: &[u64]) -> bool
 }
 
 // Each member of a is a member of b.
-pub fn inside(a: &[u64], b: &[u64]) -> bool
+pub(crate) fn inside(a: &[u64], b: &[u64]) -> bool
     requires { ⌜ Alike (now a) (now b) ⌝ }
     ensures { λ r. ⌜ r ≡ insideIn (64 * length (now (a .entry))) (member (now (a .entry))) (member (now (b .entry))) ⌝ }
 {
@@ -86,7 +86,7 @@ pub fn inside(a: &[u64], b: &[u64]) -> bool
 }
 
 // How the set a lies to the set b.
-pub fn compare(a: &[u64], b: &[u64]) -> Lie
+pub(crate) fn compare(a: &[u64], b: &[u64]) -> Lie
     requires { ⌜ Alike (now a) (now b) ⌝ }
     ensures { λ r. ⌜ r ≡ lieOf (64 * length (now (a .entry))) (member (now (a .entry))) (member (now (b .entry))) ⌝ }
 {
@@ -106,7 +106,7 @@ pub fn compare(a: &[u64], b: &[u64]) -> Lie
 }
 
 // How many numbers are members of one and not of the other.
-pub fn differing(a: &[u64], b: &[u64]) -> usize
+pub(crate) fn differing(a: &[u64], b: &[u64]) -> usize
     requires { ⌜ Alike (now a) (now b) ⌝ }
     ensures { λ r. ⌜ r ≡ count (64 * length (now (a .entry))) (λ m. xor (member (now (a .entry)) m) (member (now (b .entry)) m)) ⌝ }
 {
@@ -134,7 +134,7 @@ fn cut(word: u64, k: usize) -> u64
 }
 
 // The k lowest members stay.
-pub fn keep_lowest(words: &mut [u64], k: usize)
+pub(crate) fn keep_lowest(words: &mut [u64], k: usize)
     ensures { λ r. ⌜ member (now (words .exit)) ≡ among k (member (now (words .entry))) ⌝ }
 {
     let mut left = k;
@@ -148,7 +148,7 @@ pub fn keep_lowest(words: &mut [u64], k: usize)
 }
 
 // The lowest member from `from` on, or 64 * the number of words where there is none.
-pub fn next(words: &[u64], from: usize) -> usize
+pub(crate) fn next(words: &[u64], from: usize) -> usize
     requires { ⌜ length (now words) ≤ mostWords ⌝ }
     requires { ⌜ from ≤ 64 * length (now words) ⌝ }
     ensures { λ r. ⌜ r ≡ seek (member (now (words .entry))) (64 * length (now (words .entry)) - from) from ⌝ }
