@@ -42,8 +42,8 @@ unfolding mix among
 mix-none old new = fun-ext (λ m. rw (le-ltb (count m (unlike old new)) 0 (omega arith), and-false (unlike old new m)))
 
 -- the nets that have changed sides are a small number
-pub mixed-low : (p : Plan) (i t : ℕ) → Small p → Within p (Inserted i t) → t * p .limit ≤ 256 * 65535
-mixed-low p i t s w = le-trans (mul-le-mul-right (p .limit) (w .1)) (mul-le-mul-left 256 (s .low))
+pub changed-low : (p : Plan) (k : ℕ) → Small p → k ≤ 256 → k * p .limit ≤ 256 * 65535
+changed-low p k s l = le-trans (mul-le-mul-right (p .limit) l) (mul-le-mul-left 256 (s .low))
 
 -- the group of base vector i, which those inserted after it have too
 pub group-low : (p : Plan) (i : ℕ) → Small p → i < p .groups * p .wide → 1 + i / p .wide ≤ 65535 * 20

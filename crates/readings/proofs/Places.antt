@@ -11,7 +11,7 @@ use Rattle.rules.specs.Basics.{ceil, rowBytes}
 use Rattle.rules.specs.Vectors.{insertedAfter, between, weave, stepsOf, vectorOf}
 use Rattle.rules.specs.declared.Step.the-variants.{Base}
 use Rattle.plan.specs.declared.steps.Plan.{Plan}
-use Rattle.plan.specs.Plans.{basesFor, mix, Small}
+use Rattle.plan.specs.Plans.{basesFor, mix}
 use Rattle.plan.proofs.Mixing.{value-at}
 use Rattle.plan.proofs.Stepping.{size, start, start-zero, start-next, start-end}
 use Rattle.readings.specs.Readings.{valueAt, startOf, Scanned, Captured, Rowed, Part}
@@ -65,6 +65,3 @@ pub part-value : (p : Plan) (i extra t k : ℕ) (old new f : ℕ → Bool) → P
 unfolding valueAt
 part-value p i extra t k old new f h l o n m =
     value-at p (t + k) i k old new f (h .below) (omega (arith, h .start-is, start-is p i)) (omega (arith, h .extra-is)) o n m
-
-pub changed-low : (p : Plan) (k : ℕ) → Small p → k ≤ 256 → k * p .limit ≤ 256 * 65535
-changed-low p k s l = le-trans (mul-le-mul-right (p .limit) l) (mul-le-mul-left 256 (s .low))

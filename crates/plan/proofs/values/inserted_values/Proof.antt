@@ -5,7 +5,7 @@ use borrow.Author.Needs.{needs}
 use Rattle.rules.specs.Vectors.{differs, vectorOf}
 use Rattle.plan.specs.Plans.{basesFor, mix}
 use Rattle.plan.proofs.Stepping.{size-low}
-use Rattle.plan.proofs.Mixing.{mixed-low, mix-inserted}
+use Rattle.plan.proofs.Mixing.{changed-low, mix-inserted}
 use Rattle.plan.proofs.values.inserted_values.Statement.{statement}
 use Rattle.plan.proofs.values.inserted_values.Tie as tie
 
@@ -17,7 +17,7 @@ add-base-values c =
 mul-mixed : tie.Need-mul-mixed
 mul-mixed c =
     let p = c .before .before .before .pre in
-    omega (arith, mixed-low _ _ _ (p .0) (p .1))
+    omega (arith, changed-low _ _ (p .0) (p .1 .1))
 
 returns : tie.Need-returns
 returns c = mix-inserted _ _ _ _ _ _ (c .before .before .before .base-values .ensures) (c .before .before .base-values2 .ensures) (c .mixed .ensures)

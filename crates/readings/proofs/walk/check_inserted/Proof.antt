@@ -6,9 +6,9 @@ use borrow.Author.Needs.{needs}
 use Rattle.rules.specs.Basics.{any}
 use Rattle.words.specs.Sets.{member}
 use Rattle.plan.specs.Plans.{basesFor}
+use Rattle.plan.proofs.Mixing.{changed-low}
 use Rattle.plan.proofs.Stepping.{size-low, extra-low}
 use Rattle.readings.specs.Readings.{valueAt, strayAfter, Left, Lent}
-use Rattle.readings.proofs.Places.{changed-low}
 use Rattle.readings.proofs.Sifting.{still-lent}
 use Rattle.readings.proofs.Following.{left-start, left-next, left-last, next-row, values-first, values-next, values-last, values-on}
 use Rattle.readings.proofs.walk.check_inserted.Statement.{statement}
