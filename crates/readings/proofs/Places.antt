@@ -3,8 +3,6 @@ use Prim.Native.Nat.{ℕ, zero, suc, _+_, _*_, _-_, _≤_, _<_}
 use mathlib.Core.Path.{_≡_, refl, sym, _∙_, ap}
 use mathlib.Core.Bool.{Bool}
 use mathlib.Core.List.{List}
-use native.Mathlib.Nat.{suc-mul, le-trans, mul-le-mul-left, mul-le-mul-right, one-mul}
-use native.Mathlib.Numerals.{add-one}
 use native.Mathlib.Omega.{arith}
 use lib.ListN.{length}
 use Rattle.rules.specs.Basics.{ceil, rowBytes}
@@ -14,6 +12,7 @@ use Rattle.plan.specs.declared.steps.Plan.{Plan}
 use Rattle.plan.specs.Plans.{basesFor, mix}
 use Rattle.plan.proofs.Mixing.{value-at}
 use Rattle.plan.proofs.Stepping.{size, start, start-zero, start-next, start-end}
+use Rattle.rows.proofs.Rowing.{row-fits, place-small}
 use Rattle.readings.specs.Readings.{valueAt, startOf, Scanned, Captured, Rowed, Part}
 
 -- where the parts start
@@ -41,7 +40,14 @@ part-below p i k t l e h =
     let r = start-low p (size p - (i + 1)) (i + 1) (omega arith) in
     omega (arith, start-next p i, e, start-is p i)
 
--- the row of vector t lies in the capture, and its place is a small number
+-- row t of so many lies in the capture, and its place is a small number
+pub row-in : (t vectors bytes long : ℕ) → t < vectors → long ≡ vectors * bytes → t * bytes + bytes ≤ long
+row-in t vectors bytes long l e = row-fits t vectors bytes bytes (t * bytes) long l refl (omega (arith, e)) refl
+
+pub place-in : (t vectors bytes : ℕ) → t < vectors → vectors ≤ 4096 → bytes ≤ 128 → t * bytes ≤ 65536 * 128
+place-in t vectors bytes l few short = omega (arith, place-small t bytes (omega arith) short)
+
+-- the same of the row of vector t
 pub rowed : (p : Plan) (capture : List ℕ) (cells bytes : ℕ) → Captured p capture cells bytes → Rowed p capture bytes
 unfolding rowBytes ceil
 rowed p capture cells bytes k =
@@ -49,12 +55,10 @@ rowed p capture cells bytes k =
 
 module _ (p : Plan) (capture : List ℕ) (bytes : ℕ) (k : Rowed p capture bytes) where
   pub row-inside : (t : ℕ) → t < length (stepsOf (basesFor p)) → t * bytes + bytes ≤ length capture
-  row-inside t l =
-      let m = mul-le-mul-right {m = suc t} {n = length (stepsOf (basesFor p))} bytes l in
-      omega (arith, suc-mul t bytes, k .rows-are)
+  row-inside t l = row-in t _ bytes _ l (k .rows-are)
 
-  pub place-low : (t : ℕ) → t < length (stepsOf (basesFor p)) → t * bytes ≤ 4096 * 128
-  place-low t l = let v = k .vectors in let low : t ≤ 4096 = omega arith in le-trans (mul-le-mul-left t (k .short)) (mul-le-mul-right 128 low)
+  pub place-low : (t : ℕ) → t < length (stepsOf (basesFor p)) → t * bytes ≤ 65536 * 128
+  place-low t l = place-in t _ bytes l (k .vectors) (k .short)
 
 pub row-scanned : (p : Plan) (capture : List ℕ) (cells bytes : ℕ) → Captured p capture cells bytes → (t : ℕ) → t < length (stepsOf (basesFor p)) → Scanned capture (t * bytes) cells
 row-scanned p capture cells bytes k t l =

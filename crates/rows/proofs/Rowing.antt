@@ -90,9 +90,9 @@ pub written-all : {b : Board} {g groups : ℕ} {before after : List ℕ} → Wri
 written-all {b} {before = before} w e = w .so-far ∙ ap (λ (x : ℕ). over (groupRows b x) before) e
 
 -- a place is a small number
+pub place-small : (g bytes : ℕ) → g ≤ 65535 → bytes ≤ 128 → g * bytes + bytes ≤ 65536 * 128
+place-small g bytes l few = let all = le-trans (mul-le-mul-left g few) (mul-le-mul-right 128 l) in omega arith
+
 pub place-low : (g bytes cells at : ℕ) → g ≤ 65535 → cells ≤ 1024 → bytes ≡ rowBytes cells → at ≡ g * bytes → at + bytes ≤ 65536 * 128
 unfolding rowBytes ceil
-place-low g bytes cells at l m e a =
-    let few : bytes ≤ 128 = omega (arith, e) in
-    let all = le-trans (mul-le-mul-left g few) (mul-le-mul-right 128 l) in
-    omega arith
+place-low g bytes cells at l m e a = omega (arith, a, place-small g bytes l (omega (arith, e)))

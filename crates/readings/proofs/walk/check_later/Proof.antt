@@ -1,14 +1,14 @@
 -- Vector by vector.
-use Prim.Native.Nat.{ℕ, suc, _+_, _*_, _-_, _≤_, _<_}
+use Prim.Native.Nat.{ℕ, _+_, _*_, _-_, _≤_, _<_}
 use mathlib.Core.Path.{_≡_, refl, sym, _∙_, ap}
 use mathlib.Core.List.{List}
-use native.Mathlib.Nat.{suc-mul, le-trans, mul-le-mul-left, mul-le-mul-right}
 use native.Mathlib.Omega.{arith}
 use borrow.Author.Needs.{needs}
 use lib.ListN.{length}
 use Rattle.rules.specs.Basics.{any}
 use Rattle.words.specs.Sets.{member, nothing}
 use Rattle.readings.specs.Readings.{otherLater, Later, Left}
+use Rattle.readings.proofs.Places.{row-in, place-in}
 use Rattle.readings.proofs.Sifting.{still-lent}
 use Rattle.readings.proofs.Following.{left-no-later, left-later, left-laters}
 use Rattle.readings.proofs.walk.check_later.Statement.{statement}
@@ -23,14 +23,10 @@ abbrev μ-loop : tie.MeasureT-loop
 
 -- row t lies in the capture, and its place is a small number
 inside : (capture : List ℕ) (first vectors bytes t : ℕ) → Later capture first vectors bytes → t < vectors → t * bytes + bytes ≤ length capture
-inside capture first vectors bytes t h l =
-    let m = mul-le-mul-right {m = suc t} {n = vectors} bytes l in
-    omega (arith, suc-mul t bytes, h .rows-are)
+inside capture first vectors bytes t h l = row-in t vectors bytes (length capture) l (h .rows-are)
 
-low : (capture : List ℕ) (first vectors bytes t : ℕ) → Later capture first vectors bytes → t < vectors → t * bytes ≤ 4096 * 128
-low capture first vectors bytes t h l =
-    let f = h .few in
-    le-trans (mul-le-mul-left t (h .short)) (mul-le-mul-right 128 (let q : t ≤ 4096 = omega arith in q))
+low : (capture : List ℕ) (first vectors bytes t : ℕ) → Later capture first vectors bytes → t < vectors → t * bytes ≤ 65536 * 128
+low capture first vectors bytes t h l = place-in t vectors bytes l (h .few) (h .short)
 
 check-rows-requires : tie.Need-check-rows-requires Inv-loop μ-loop
 check-rows-requires c κs =
