@@ -23,6 +23,10 @@ use Rattle.board.specs.Sharing.{withControl, withControls, withSharers, 
 use Rattle.board.proofs.Chaining.{keyed-net, keyed-control}
 use Rattle.board.proofs.Sets.{eqb-back}
 
+-- a driver of k is a driver
+pub keyed-controlled : (b : Board) (k c : ℕ) → keyed b ControlCell k c ≡ true → controlled b c ≡ true
+keyed-controlled b k c h = left (controlled b c) _ (sym (keyed-control b k c) ∙ h)
+
 module _ (b : Board) where
   -- control cell k's driver at c brings net m; net n's driver at c brings control cell j: the same test
   abbrev pub brings : ℕ → ℕ → ℕ → Bool
@@ -67,7 +71,7 @@ module _ (b : Board) where
 
   pub sharers-grown : (k c : ℕ) (f : ℕ → Bool) → keyed b ControlCell k c ≡ true → (j : ℕ) → withSharers b k c f j ≡ (sharesAbove k j c || f j)
   unfolding withSharers
-  sharers-grown k c f h j = rw (h, left (controlled b c) _ (sym (keyed-control b k c) ∙ h))
+  sharers-grown k c f h j = rw (h, keyed-controlled b k c h)
 
 -- some number passes and x holds, where x does not speak of the number
 any-both : (n : ℕ) (p : ℕ → Bool) (x : Bool) → any n (λ c. p c && x) ≡ (any n p && x)
@@ -87,19 +91,21 @@ all-controls file low n f s h =
     fun-ext (λ j. h j ∙ or-comm (f j) _ ∙ ap (λ (x : Bool). x || f j) (any-both (cellsOf file) (brings (boardOf file) j n) (ltb low j)))
 
 -- a driver's own net is in its control cell's set
-own-net : (b : Board) (k c : ℕ) → c < b .size → keyed b ControlCell k c ≡ true → drives b k (netOf (b .cell c)) ≡ true
+pub driver-own : (b : Board) (c : ℕ) → c < b .size → controlled b c ≡ true → drives b (controlFor b c) (netOf (b .cell c)) ≡ true
 unfolding driverOf onNet
+driver-own b c l x = driver-drives b (netOf (b .cell c)) c l (both (eq-eqb (netOf (b .cell c)) (netOf (b .cell c)) refl) x)
+
+pub own-net : (b : Board) (k c : ℕ) → c < b .size → keyed b ControlCell k c ≡ true → drives b k (netOf (b .cell c)) ≡ true
 own-net b k c l h =
-    let on = sym (keyed-control b k c) ∙ h in
-    let e = eqb-true (controlFor b c) k (right (controlled b c) on) in
-    rw e at (driver-drives b (netOf (b .cell c)) c l (both (eq-eqb (netOf (b .cell c)) (netOf (b .cell c)) refl) (left (controlled b c) _ on)))
+    let e = eqb-true (controlFor b c) k (right (controlled b c) (sym (keyed-control b k c) ∙ h)) in
+    rw e at (driver-own b c l (keyed-controlled b k c h))
 
 module _ (b : Board) (known : (c : ℕ) → c < b .size → controlled b c ≡ true → netOf (b .cell c) < b .nets) (k j : ℕ) where
   shares-meets : any (b .size) (shares b k j) ≡ true → meets b k j ≡ true
   shares-meets t =
       let c = any-member _ _ t in
       let on = left (keyed b ControlCell k (c .0)) _ (c .2) in
-      meets-at b k j (netOf (b .cell (c .0))) (known (c .0) (c .1) (left (controlled b (c .0)) _ (sym (keyed-control b k (c .0)) ∙ on))) (own-net b k (c .0) (c .1) on) (right (keyed b ControlCell k (c .0)) (c .2))
+      meets-at b k j (netOf (b .cell (c .0))) (known (c .0) (c .1) (keyed-controlled b k (c .0) on)) (own-net b k (c .0) (c .1) on) (right (keyed b ControlCell k (c .0)) (c .2))
 
   meets-shares : meets b k j ≡ true → any (b .size) (shares b k j) ≡ true
   unfolding driverOf onNet
@@ -122,10 +128,6 @@ all-sharers file ok k s h =
 pub chained-net : (file : List ℕ) → judge (fileChecks file) ≡ Accepted → (k c : ℕ) → c < cellsOf file → keyed (boardOf file) ControlCell k c ≡ true → netOf (boardOf file .cell c) < 64 * netWords
 unfolding boardOf
 chained-net file ok k c l h =
-    let on = sym (keyed-control (boardOf file) k c) ∙ h in
-    let b = kept-net file (whole-records file ok) c l (or-left _ (left (controlled (boardOf file) c) _ on)) in
+    let b = kept-net file (whole-records file ok) c l (or-left _ (keyed-controlled (boardOf file) k c h)) in
     let f = laid file (shaped file ok) .nets .few in
     omega arith
-
-pub keyed-controlled : (b : Board) (k c : ℕ) → keyed b ControlCell k c ≡ true → controlled b c ≡ true
-keyed-controlled b k c h = left (controlled b c) _ (sym (keyed-control b k c) ∙ h)

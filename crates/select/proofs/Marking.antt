@@ -1,19 +1,20 @@
 -- Marks as nets: a control cell with a driver is marked exactly where one of its nets is a net of a cell that is on.
 use Prim.Native.Nat.{ℕ, _<_, _≤_, _*_}
-use mathlib.Core.Path.{_≡_, refl}
+use mathlib.Core.Path.{_≡_}
 use mathlib.Core.Logic.{inr, ⊎-elim}
 use mathlib.Core.Bool.{true, false, false≢true}
 use mathlib.Core.List.{List, [], _∷_}
 use native.Mathlib.Omega.{arith}
-use borrow.Author.Tests.{eqb-true, eq-eqb}
+use borrow.Author.Tests.{eqb-true}
 use Rattle.rules.specs.Basics.{has}
 use Rattle.rules.specs.File.{Board, netOf}
 use Rattle.rules.specs.Drivers.{controlled, controlFor, onNet, driverOf, drives, meets}
 use Rattle.rules.specs.Groups.{marked}
 use Rattle.rules.proofs.Tests.{left, right, both, or-left, or-right, or-cases, any-at, any-member, same-test}
-use Rattle.rules.proofs.Driving.{meets-net, meets-at, drives-driver, driver-drives}
+use Rattle.rules.proofs.Driving.{meets-net, meets-at, drives-driver}
 use Rattle.rules.proofs.Passes.{has-here, has-there, has-cases, marked-by, marks}
 use Rattle.words.specs.Sets.{netWords, meetsIn}
+use Rattle.board.proofs.Brought.{driver-own}
 use Rattle.select.specs.Turns.{coveredBy, reached}
 
 -- a covered net is the net of a cell that is on
@@ -36,11 +37,6 @@ covers b (x ∷ on) t n h d =
     (has-cases t x on h)
 
 module _ (b : Board) (few : b .nets ≤ 64 * netWords) (known : (c : ℕ) → c < b .size → controlled b c ≡ true → netOf (b .cell c) < b .nets) where
-  -- a driver's own net is in its control cell's set
-  own : (c : ℕ) → c < b .size → controlled b c ≡ true → drives b (controlFor b c) (netOf (b .cell c)) ≡ true
-  unfolding driverOf onNet
-  own c l x = driver-drives b (netOf (b .cell c)) c l (both (eq-eqb (netOf (b .cell c)) (netOf (b .cell c)) refl) x)
-
   -- a control cell's nets are nets of the board
   net-low : (k n : ℕ) → drives b k n ≡ true → n < b .nets
   unfolding driverOf onNet
@@ -58,7 +54,7 @@ module _ (b : Board) (few : b .nets ≤ 64 * netWords) (known : (c : ℕ) → c 
 
   -- so a driver on a covered net has a marked control cell
   pub covered-marked : (on : List ℕ) (c : ℕ) → c < b .size → controlled b c ≡ true → coveredBy b on (netOf (b .cell c)) ≡ true → marked b on (controlFor b c) ≡ true
-  covered-marked on c l x h = net-marks on (controlFor b c) (netOf (b .cell c)) (own c l x) h
+  covered-marked on c l x h = net-marks on (controlFor b c) (netOf (b .cell c)) (driver-own b c l x) h
 
   reached-marked : (on : List ℕ) (k : ℕ) → reached b on k ≡ true → marked b on k ≡ true
   unfolding reached meetsIn
@@ -75,7 +71,7 @@ module _ (b : Board) (few : b .nets ≤ 64 * netWords) (known : (c : ℕ) → c 
   marked-reached on c l x =
       same-test _ _
       (λ h. let t = marked-by b on (controlFor b c) h in ⊎-elim
-      (λ (e : t .0 ≡ controlFor b c). let d = own c l x in reached-at on (controlFor b c) (controlFor b c) (netOf (b .cell c)) (rw e at (t .1)) d d)
+      (λ (e : t .0 ≡ controlFor b c). let d = driver-own b c l x in reached-at on (controlFor b c) (controlFor b c) (netOf (b .cell c)) (rw e at (t .1)) d d)
       (λ (e : meets b (t .0) (controlFor b c) ≡ true). let n = meets-net b (t .0) (controlFor b c) e in reached-at on (controlFor b c) (t .0) (n .0) (t .1) (n .2) (n .3))
       (t .2))
       (reached-marked on (controlFor b c))
