@@ -15,7 +15,7 @@ use Rattle.rules.specs.Drivers.{controlled, controlFor, isControl, onNet, drive
 use Rattle.rules.specs.Refusals.{judge, crossed, unequal, fileChecks, mostCells}
 use Rattle.rules.specs.declared.Verdict.the-variants.{Accepted}
 use Rattle.rules.proofs.Tests.{decided, left, right, both, or-left, not-fails, fails-not, clashes, fails-if, passes-if, order, same-test, any-at, any-member, any-none, none-any, Lowest, seek-lowest}
-use Rattle.rules.proofs.Driving.{drives-driver, driver-drives, meets-net}
+use Rattle.rules.proofs.Driving.{drives-driver, meets-net}
 use Rattle.rules.proofs.Shape.{laid, shaped, whole-records}
 use Rattle.rules.proofs.Acceptance.{kept-control, kept-net}
 use Rattle.words.specs.Sets.{netWords, cellWords, member, meetsIn, insideIn, lieBy, lieOf}
@@ -25,6 +25,7 @@ use Rattle.board.specs.Chains.{keyed}
 use Rattle.board.specs.Sharing.{partnersOf}
 use Rattle.board.specs.Controls.{isCrossing, driversAt}
 use Rattle.board.proofs.Chaining.{keyed-control}
+use Rattle.board.proofs.Brought.{own-net}
 
 -- crossing is: meeting, and neither inside the other
 crossing-by : (x y z : Bool) → isCrossing (lieBy x y z) ≡ (z && not x && not y)
@@ -145,12 +146,6 @@ module _ (b : Board) (known : (c : ℕ) → c < b .size → controlled b c ≡ t
   unfolding driversAt
   counts c h = rw (on c h .0)
 
-  net-of : (c : ℕ) → c < b .size → keyed b ControlCell k c ≡ true → drives b k (netOf (b .cell c)) ≡ true
-  unfolding driverOf onNet
-  net-of c l h =
-      let o = on c h in
-      rw (o .1) at (driver-drives b (netOf (b .cell c)) c l (both (eq-eqb (netOf (b .cell c)) (netOf (b .cell c)) refl) (o .0)))
-
   -- a net of k has a driver of k on it
   driver-at : (n : ℕ) → drives b k n ≡ true → (c : ℕ) × (c < b .size) × (keyed b ControlCell k c ≡ true) × (driversAt b c ≡ drivers b n)
   unfolding driverOf onNet
@@ -188,7 +183,7 @@ module _ (b : Board) (known : (c : ℕ) → c < b .size → controlled b c ≡ t
           let o = on (c .0) kc in
           let is = known (c .0) (c .1) (o .0) in
           both (rw (o .1) at (is .1))
-          (any-at _ _ (is .0) (any-at _ _ (known h l (on h key .0) .0) (both (both (net-of (c .0) (c .1) kc) (net-of h l key)) (not-fails (ne-eqb _ _ (λ q. apart (counts (c .0) kc ∙ q ∙ sym (counts h key) ∙ sym e)))))))
+          (any-at _ _ (is .0) (any-at _ _ (known h l (on h key .0) .0) (both (both (own-net b k (c .0) (c .1) kc) (own-net b k h l key)) (not-fails (ne-eqb _ _ (λ q. apart (counts (c .0) kc ∙ q ∙ sym (counts h key) ∙ sym e)))))))
 
   -- an empty chain has no pair
   pub unequal-none : ((c : ℕ) → c < b .size → keyed b ControlCell k c ≡ false) → unequal b k ≡ false

@@ -12,12 +12,11 @@ use borrow.Author.Tests.{eqb-true, eqb-false, eq-eqb}
 use lib.Dec.{eqb}
 use lib.ListN.{getD}
 use Rattle.rules.specs.File.{Board, boardOf, cellsOf, netOf}
-use Rattle.rules.specs.Drivers.{controlled, controlFor, onNet, driverOf, meets}
+use Rattle.rules.specs.Drivers.{controlled, controlFor, meets}
 use Rattle.rules.specs.Groups.{marked, turn, pass}
 use Rattle.rules.specs.declared.Net.{Net}
 use Rattle.rules.specs.declared.Position.{Position}
 use Rattle.rules.proofs.Tests.{left, right, both, or-left, or-right, below-suc}
-use Rattle.rules.proofs.Driving.{driver-drives, Affects}
 use Rattle.rules.proofs.Passes.{open-at}
 use Rattle.rules.proofs.Selection.{Sound, degrees-equal}
 use Rattle.board.specs.declared.chains.By.the-variants.{ControlCell}
@@ -25,6 +24,7 @@ use Rattle.board.specs.declared.drivers.Driver.the-variants.{Of, Nothing}
 use Rattle.board.specs.Chains.{last, keyed, keysOf}
 use Rattle.board.specs.Driving.{driverIn}
 use Rattle.board.proofs.Chaining.{last-le, last-member, keyed-control}
+use Rattle.board.proofs.Brought.{driver-own}
 use Rattle.board.proofs.Drives.{is-driver, no-driver, control-below}
 use Rattle.board.proofs.Walks.{cell-in}
 use Rattle.select.specs.declared.turns.Pass.{Pass}
@@ -79,13 +79,12 @@ module _ (b : Board) (s : Sound b) (which : Pass) (g : ℕ) (allowed : ℕ → B
 
   -- drivers of one control cell are open alike
   open-alike : (c d : ℕ) → c < b .size → d < b .size → controlled b d ≡ true → controlFor b d ≡ controlFor b c → opens c ≡ true → opens d ≡ true
-  unfolding wantedIn driverOf onNet
+  unfolding wantedIn
   open-alike c d l m x e o =
       let cw = left (controlled b c && wantedIn b which g (netOf (b .cell c))) _ o in
       let is = left (controlled b c) _ cw in
       let own = s .checked .own-control c l is in
-      let affects : (i : ℕ) → i < b .size → controlled b i ≡ true → Affects b (controlFor b i) (netOf (b .cell i)) = λ i k y. driver-drives b (netOf (b .cell i)) i k (both (eq-eqb (netOf (b .cell i)) (netOf (b .cell i)) refl) y) in
-      let same = degrees-equal b s (controlFor b c) (netOf (b .cell d)) (netOf (b .cell c)) (record { on-board = own .0; is-control = own .1 }) (s .checked .own-net d m (or-left _ x)) (s .checked .own-net c l (or-left _ is)) (rw e at (affects d m x)) (affects c l is) in
+      let same = degrees-equal b s (controlFor b c) (netOf (b .cell d)) (netOf (b .cell c)) (record { on-board = own .0; is-control = own .1 }) (s .checked .own-net d m (or-left _ x)) (s .checked .own-net c l (or-left _ is)) (rw e at (driver-own b d m x)) (driver-own b c l is) in
       both (both x (ap (wantedAt which g) same ∙ right (controlled b c) cw)) (ap allowed e ∙ right (controlled b c && wantedIn b which g (netOf (b .cell c))) o)
 
   -- a position leaves marked what is marked, and its own control cell, where open
