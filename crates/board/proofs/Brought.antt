@@ -17,8 +17,7 @@ use Rattle.rules.proofs.Driving.{driver-output, drives-driver, driver-drives, m
 use Rattle.rules.proofs.Shape.{laid, shaped, whole-records}
 use Rattle.rules.proofs.Acceptance.{kept-net}
 use Rattle.words.specs.Sets.{netWords, nothing, plus}
-use Rattle.board.specs.declared.chains.By.the-variants.{ControlCell, NetOf}
-use Rattle.board.specs.Chains.{keyed}
+use Rattle.board.specs.Chains.{ControlCell, NetOf, keyed}
 use Rattle.board.specs.Sharing.{withControl, withControls, withSharers, partnersOf}
 use Rattle.board.proofs.Chaining.{keyed-net, keyed-control}
 use Rattle.board.proofs.Sets.{eqb-back}

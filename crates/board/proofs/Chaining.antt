@@ -20,9 +20,7 @@ use Rattle.rules.specs.declared.Verdict.the-variants.{Accepted}
 use Rattle.rules.proofs.Shape.{laid, shaped, whole-records}
 use Rattle.rules.proofs.Acceptance.{kept-control, kept-net}
 use Rattle.rules.proofs.Tests.{decided, fails-if, clashes, below-suc, any-at, any-member, same-test}
-use Rattle.board.specs.Chains.{last, keyOf, isKey, keyed, keysOf, Linked}
-use Rattle.board.specs.declared.chains.By.{By}
-use Rattle.board.specs.declared.chains.By.the-variants.{ControlCell, NetOf}
+use Rattle.board.specs.Chains.{By, ControlCell, NetOf, last, keyOf, isKey, keyed, keysOf, Linked}
 use Rattle.board.specs.declared.chains.Key.{Key}
 use Rattle.board.specs.declared.chains.Key.the-variants.{Of, Nothing}
 
@@ -142,11 +140,6 @@ key-below file ok by c x l e = go by (boardOf file .cell c) refl e
     go NetOf (Control on) q h = absurd (never h)
     go NetOf (ThreeState k n) q h = rw (← of (n .0) h) (rw q at (kept-net file whole c l (rw q refl)))
     go NetOf (TwoState n) q h = rw (← of (n .0) h) (rw q at (kept-net file whole c l (rw q refl)))
-
-pub keys-few : (file : List ℕ) → judge (fileChecks file) ≡ Accepted → (by : By) → keysOf file by ≤ mostCells
-unfolding keysOf
-keys-few file ok ControlCell = laid file (shaped file ok) .cells .few
-keys-few file ok NetOf = let n = laid file (shaped file ok) .nets .few in omega arith
 
 -- a walk along a chain, looking for a member that passes q: nothing above `at` has
 pub record Walking (p q : ℕ → Bool) (n at : ℕ) : Type 0 where

@@ -20,8 +20,7 @@ use Rattle.rules.proofs.Shape.{laid, shaped, whole-records}
 use Rattle.rules.proofs.Acceptance.{kept-control, kept-net}
 use Rattle.words.specs.Sets.{netWords, cellWords, member, meetsIn, insideIn, lieBy, lieOf}
 use Rattle.words.proofs.Bounds.{meets-bound, inside-bound}
-use Rattle.board.specs.declared.chains.By.the-variants.{ControlCell}
-use Rattle.board.specs.Chains.{keyed}
+use Rattle.board.specs.Chains.{ControlCell, keyed}
 use Rattle.board.specs.Sharing.{partnersOf}
 use Rattle.board.specs.Controls.{isCrossing, driversAt}
 use Rattle.board.proofs.Chaining.{keyed-control}

@@ -21,8 +21,7 @@ use Rattle.rules.proofs.Shape.{whole-records}
 use Rattle.rules.proofs.Acceptance.{kept-control}
 use Rattle.rules.proofs.Searching.{Searched, found, ended}
 use Rattle.words.specs.Sets.{netWords, nothing, either, member, meetsIn, insideIn, lieBy, lieOf}
-use Rattle.board.specs.declared.chains.By.the-variants.{ControlCell}
-use Rattle.board.specs.Chains.{keyed, Chains}
+use Rattle.board.specs.Chains.{ControlCell, keyed, Chains}
 use Rattle.board.proofs.Walks.{cell-in, none-keyed}
 use Rattle.board.specs.Controls.{isClear, sameIn, Twin, crossedFrom, Idle, Walked}
 use Rattle.board.specs.declared.controls.Above.{Above}

@@ -11,10 +11,9 @@ use Rattle.rules.specs.File.{Board, boardOf, cellsOf, none}
 use Rattle.rules.specs.Drivers.{outputOf}
 use Rattle.rules.specs.Refusals.{clashing}
 use Rattle.rules.proofs.Tests.{left, right, fails-if, clashes, order, any-member, none-any}
-use Rattle.board.specs.declared.chains.By.the-variants.{NetOf}
 use Rattle.board.specs.declared.drivers.Driver.{Driver}
 use Rattle.board.specs.declared.drivers.Driver.the-variants.{Of, Nothing}
-use Rattle.board.specs.Chains.{keyed, last, Chains}
+use Rattle.board.specs.Chains.{NetOf, keyed, last, Chains}
 use Rattle.board.specs.Driving.{driverIn, controlIn, conflictOf, conflictAt}
 use Rattle.board.proofs.Chaining.{last-le, last-member, last-above, last-again, keyed-net}
 use Rattle.board.proofs.Walks.{above}

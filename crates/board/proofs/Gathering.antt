@@ -7,8 +7,7 @@ use native.Mathlib.Omega.{arith}
 use lib.ListN.{length, getD}
 use Rattle.rules.specs.Basics.{any}
 use Rattle.rules.specs.File.{boardOf, cellsOf}
-use Rattle.board.specs.declared.chains.By.{By}
-use Rattle.board.specs.Chains.{keyed, last, Chains}
+use Rattle.board.specs.Chains.{By, keyed, last, Chains}
 use Rattle.board.proofs.Chaining.{last-le, last-member, last-again, any-last}
 use Rattle.board.proofs.Walks.{above}
 

@@ -3,6 +3,7 @@ pub mod Reading
 pub mod Chaining
 pub mod Walks
 pub mod Drives
+pub mod Entering
 pub mod Clashing
 pub mod Falling
 pub mod NetChecks

@@ -16,8 +16,7 @@ use Rattle.blocks.specs.Places.{mostNumber}
 use Rattle.rules.proofs.Tests.{none-any, same-test, any-at, any-member}
 use Rattle.rules.proofs.Shape.{laid, shaped}
 use Rattle.rules.proofs.Verdicts.{andThen, Then, judge-then, judge-same}
-use Rattle.board.specs.declared.chains.By.the-variants.{NetOf}
-use Rattle.board.specs.Chains.{keyed, keysOf, last, Chains}
+use Rattle.board.specs.Chains.{NetOf, keyed, keysOf, last, Chains}
 use Rattle.board.specs.Nets.{outside, outsideAt, Checkable}
 use Rattle.board.proofs.Chaining.{keyed-net}
 use Rattle.board.proofs.Walks.{head-low}

@@ -9,9 +9,7 @@ use lib.ListN.{length, getD}
 use Rattle.rules.specs.Basics.{any}
 use Rattle.rules.specs.File.{boardOf, cellsOf, netsOf}
 use Rattle.rules.proofs.Tests.{any-none}
-use Rattle.board.specs.declared.chains.By.{By}
-use Rattle.board.specs.declared.chains.By.the-variants.{ControlCell, NetOf}
-use Rattle.board.specs.Chains.{keyed, keysOf, last, Chains}
+use Rattle.board.specs.Chains.{By, ControlCell, NetOf, keyed, keysOf, last, Chains}
 use Rattle.board.proofs.Chaining.{last-le, Walking, walk-start, walk-next, walk-found, walk-ended, walk-member}
 
 -- 1 + (at - 1) is at

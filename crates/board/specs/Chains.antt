@@ -7,14 +7,17 @@ use mathlib.Core.List.{List}
 use lib.Dec.{eqb}
 use lib.ListN.{length, getD}
 use Rattle.rules.specs.File.{Board, boardOf, cellsOf, netsOf}
-use Rattle.rules.specs.Refusals.{judge, fileChecks}
+use Rattle.rules.specs.Refusals.{judge, fileChecks, mostCells}
 use Rattle.rules.specs.declared.Cell.{Cell}
 use Rattle.rules.specs.declared.Cell.the-variants.{Internal, Input, Control, ThreeState, TwoState}
 use Rattle.rules.specs.declared.Verdict.the-variants.{Accepted}
-use Rattle.board.specs.declared.chains.By.{By}
-use Rattle.board.specs.declared.chains.By.the-variants.{ControlCell, NetOf}
 use Rattle.board.specs.declared.chains.Key.{Key}
 use Rattle.board.specs.declared.chains.Key.the-variants.{Of, Nothing}
+
+-- what a chain goes by
+pub data By : Type 0 where
+  ControlCell : By
+  NetOf : By
 
 -- 1 + the highest number below n that passes, 0 where none does
 unfoldable pub last : ℕ → (ℕ → Bool) → ℕ
@@ -52,6 +55,12 @@ pub record Linked (b : Board) (by : By) (n : ℕ) (heads links : List ℕ) : Typ
 unfoldable pub keysOf : List ℕ → By → ℕ
 keysOf file ControlCell = cellsOf file
 keysOf file NetOf = netsOf file
+
+-- a head's place k in its table, and a position's c in the table of links
+pub record Linkable (k c : ℕ) (heads links : List ℕ) : Type 0 where
+  pub key : k < length heads
+  pub cell : c < length links
+  pub few : c < mostCells
 
 -- the chains of the first n positions of a whole file, in tables with room for all
 pub record Grown (file : List ℕ) (by : By) (n : ℕ) (heads links : List ℕ) : Type 0 where

@@ -11,9 +11,8 @@ use Rattle.rules.specs.Refusals.{crossed}
 use Rattle.words.specs.Sets.{member, insideIn}
 use Rattle.words.specs.declared.Lie.{Lie}
 use Rattle.words.specs.declared.Lie.the-variants.{Apart, Inside, Holds, Equal, Crossing}
-use Rattle.board.specs.declared.chains.By.the-variants.{ControlCell, NetOf}
 use Rattle.board.specs.declared.controls.Above.{Above}
-use Rattle.board.specs.Chains.{Chains}
+use Rattle.board.specs.Chains.{ControlCell, NetOf, Chains}
 use Rattle.board.specs.Driving.{Counted}
 
 -- the one way that two net sets may not lie

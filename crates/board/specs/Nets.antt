@@ -6,8 +6,7 @@ use mathlib.Core.List.{List}
 use lib.Dec.{ltb}
 use lib.ListN.{getD}
 use Rattle.rules.specs.File.{cellsOf, netsOf}
-use Rattle.board.specs.declared.chains.By.the-variants.{NetOf}
-use Rattle.board.specs.Chains.{Chains}
+use Rattle.board.specs.Chains.{NetOf, Chains}
 use Rattle.board.specs.Driving.{Counted}
 
 -- below low or above high

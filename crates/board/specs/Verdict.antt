@@ -6,8 +6,7 @@ use lib.ListN.{length, getD}
 use Rattle.rules.specs.File.{cellsOf, netsOf}
 use Rattle.rules.specs.Refusals.{judge, fileChecks, mostCells, mostNets}
 use Rattle.rules.specs.declared.Verdict.the-variants.{Accepted}
-use Rattle.board.specs.declared.chains.By.the-variants.{ControlCell, NetOf}
-use Rattle.board.specs.Chains.{Chains}
+use Rattle.board.specs.Chains.{ControlCell, NetOf, Grown}
 use Rattle.board.specs.Driving.{Counted}
 
 -- a table of at least so many entries, all 0
@@ -28,10 +27,15 @@ pub record Fillable (file : List ℕ) (cells : ℕ) (heads links netHeads netLin
   pub cells-are : cells ≡ cellsOf file
   pub blank : Blank heads links netHeads netLinks counts
 
-pub record Filled (file heads links netHeads netLinks counts : List ℕ) : Type 0 where
-  pub by-control : Chains file ControlCell heads links
-  pub by-net : Chains file NetOf netHeads netLinks
-  pub counted : Counted file (cellsOf file) counts
+-- the chains and counts of the first n positions
+pub record Entered (file : List ℕ) (n : ℕ) (heads links netHeads netLinks counts : List ℕ) : Type 0 where
+  pub by-control : Grown file ControlCell n heads links
+  pub by-net : Grown file NetOf n netHeads netLinks
+  pub counted : Counted file n counts
+
+-- those of all positions
+abbrev pub Filled : List ℕ → List ℕ → List ℕ → List ℕ → List ℕ → List ℕ → Type 0
+Filled file heads links netHeads netLinks counts = Entered file (cellsOf file) heads links netHeads netLinks counts
 
 -- filled tables with the file's sizes
 pub record Judgeable (file heads links netHeads netLinks counts : List ℕ) (cells nets : ℕ) : Type 0 where

@@ -1,9 +1,6 @@
-// What a cell drives, and how many controlled drivers each net has.
+// What a cell drives, and which two outputs of a net may not stand together.
 ghost use mathlib.Core.Path.{_≡_};
-ghost use Prim.Native.Nat.{_+_, _<_};
-ghost use Rattle.rules.specs.File.{cellsOf};
-ghost use Rattle.board.specs.Driving.{driverIn, conflictOf, Counted};
-use crate::cells::cell_at;
+ghost use Rattle.board.specs.Driving.{driverIn, conflictOf};
 use rules::Cell;
 use rules::Net;
 use rules::Position;
@@ -28,7 +25,7 @@ pub fn driver_of(cell: Cell) -> Driver
 }
 
 // Two outputs of one net that may not stand together: one is always on, or both are of one control cell.
-pub fn conflict(a: Cell, b: Cell) -> bool
+pub(crate) fn conflict(a: Cell, b: Cell) -> bool
     ensures { λ r. ⌜ r ≡ conflictOf (driverIn a) (driverIn b) ⌝ }
 {
     let first = driver_of(a);
@@ -40,18 +37,4 @@ pub fn conflict(a: Cell, b: Cell) -> bool
         return true;
     };
     k.0 == j.0
-}
-
-// The counts of the positions below c, grown by c.
-pub fn count_in(file: &[u8], c: usize, counts: &mut [u16])
-    requires { ⌜ Counted (now file) c (now counts) ⌝ }
-    requires { ⌜ c < cellsOf (now file) ⌝ }
-    ensures { λ r. ⌜ Counted (now (file .entry)) (c + 1) (now (counts .exit)) ⌝ }
-{
-    let found = driver_of(cell_at(file, c));
-    let Driver::Of(_, net) = found else {
-        return;
-    };
-    let n = net.0 as usize;
-    counts[n] = counts[n] + 1;
 }

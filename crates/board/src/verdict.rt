@@ -1,16 +1,20 @@
 // The verdict on a board file: refusals 1 to 11, in their order.
 ghost use mathlib.Core.Path.{_≡_};
+ghost use Prim.Native.Nat.{_+_, _<_};
 ghost use mathlib.Core.List.{_++_};
 ghost use Rattle.rules.specs.File.{boardOf, cellsOf};
 ghost use Rattle.rules.specs.Refusals.{judge, fileChecks, netChecks, controlChecks, boardChecks};
 ghost use Rattle.rules.specs.declared.Verdict.the-variants.{Accepted};
-ghost use Rattle.board.specs.Verdict.{Blank, Fillable, Filled, Judgeable};
+ghost use Rattle.board.specs.Verdict.{Blank, Entered, Fillable, Filled, Judgeable};
+use crate::cells::cell_at;
 use crate::cells::records_verdict;
-use crate::chains::By;
+use crate::chains::Key;
 use crate::chains::link;
+use crate::chains::net_key;
 use crate::controls::crossed_verdict;
 use crate::controls::unequal_verdict;
-use crate::drivers::count_in;
+use crate::drivers::Driver;
+use crate::drivers::driver_of;
 use crate::nets::nets_verdict;
 use blocks::MOST_CELLS;
 use blocks::MOST_NETS;
@@ -70,6 +74,34 @@ fn tables_verdict(
     unequal_verdict(file, heads, links, counts, cells)
 }
 
+// The chains and counts of the positions below c, grown by c.
+fn enter(
+    file: &[u8],
+    c: usize,
+    heads: &mut [u16],
+    links: &mut [u16],
+    net_heads: &mut [u16],
+    net_links: &mut [u16],
+    counts: &mut [u16],
+)
+    requires { ⌜ Entered (now file) c (now heads) (now links) (now «net_heads») (now «net_links») (now counts) ⌝ }
+    requires { ⌜ c < cellsOf (now file) ⌝ }
+    ensures { λ r. ⌜ Entered (now (file .entry)) (c + 1) (now (heads .exit)) (now (links .exit)) (now («net_heads» .exit)) (now («net_links» .exit)) (now (counts .exit)) ⌝ }
+{
+    let cell = cell_at(file, c);
+    let output = net_key(cell);
+    let Key::Of(n) = output else {
+        return;
+    };
+    link(c, n, net_heads, net_links);
+    let driver = driver_of(cell);
+    let Driver::Of(k, _) = driver else {
+        return;
+    };
+    link(c, k.0 as usize, heads, links);
+    counts[n] = counts[n] + 1;
+}
+
 // The chains and counts of a whole file, in tables that hold nothing yet.
 fn fill_tables(
     file: &[u8],
@@ -85,9 +117,7 @@ fn fill_tables(
 {
     let mut c = 0;
     while c < cells {
-        link(file, By::ControlCell, c, heads, links);
-        link(file, By::NetOf, c, net_heads, net_links);
-        count_in(file, c, counts);
+        enter(file, c, heads, links, net_heads, net_links, counts);
         c += 1;
     }
 }

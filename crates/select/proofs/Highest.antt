@@ -19,9 +19,9 @@ use Rattle.rules.specs.declared.Position.{Position}
 use Rattle.rules.proofs.Tests.{left, right, both, or-left, or-right, below-suc}
 use Rattle.rules.proofs.Passes.{open-at}
 use Rattle.rules.proofs.Selection.{Sound, degrees-equal}
-use Rattle.board.specs.declared.chains.By.the-variants.{ControlCell}
+use Rattle.board.specs.Chains.{}
 use Rattle.board.specs.declared.drivers.Driver.the-variants.{Of, Nothing}
-use Rattle.board.specs.Chains.{last, keyed, keysOf}
+use Rattle.board.specs.Chains.{ControlCell, last, keyed, keysOf}
 use Rattle.board.specs.Driving.{driverIn}
 use Rattle.board.proofs.Chaining.{last-le, last-member, keyed-control}
 use Rattle.board.proofs.Brought.{driver-own}

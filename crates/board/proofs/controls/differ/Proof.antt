@@ -10,8 +10,7 @@ use lib.Dec.{eqb}
 use lib.ListN.{getD}
 use Rattle.rules.specs.File.{Board, boardOf, cellsOf}
 use Rattle.rules.proofs.Tests.{left, both, not-fails}
-use Rattle.board.specs.declared.chains.By.the-variants.{ControlCell}
-use Rattle.board.specs.Chains.{keyed, Chains}
+use Rattle.board.specs.Chains.{ControlCell, keyed, Chains}
 use Rattle.board.specs.Controls.{driversAt}
 use Rattle.board.proofs.Chaining.{Walking}
 use Rattle.board.proofs.Walks.{cell-in, head-low, link-low, from-head, step, on-chain, hit, missed, none-keyed}

@@ -11,8 +11,7 @@ use Rattle.rules.specs.Refusals.{unequal}
 use Rattle.rules.proofs.Shape.{laid, shaped}
 use Rattle.rules.proofs.Searching.{Searched, search-start, search-next, found, ended}
 use Rattle.rules.proofs.Tests.{order}
-use Rattle.board.specs.declared.chains.By.the-variants.{ControlCell}
-use Rattle.board.specs.Chains.{Chains, keysOf}
+use Rattle.board.specs.Chains.{ControlCell, Chains, keysOf}
 use Rattle.board.specs.Controls.{Idle}
 use Rattle.board.proofs.Walks.{cell-in, none-keyed}
 use Rattle.board.proofs.ControlChecks.{unequal-empty}

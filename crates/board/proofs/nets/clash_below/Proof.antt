@@ -9,8 +9,7 @@ use Rattle.rules.specs.File.{Board, boardOf, cellsOf}
 use Rattle.rules.specs.Drivers.{outputOf}
 use Rattle.rules.specs.declared.Cell.{Cell}
 use Rattle.rules.proofs.Tests.{left, both}
-use Rattle.board.specs.declared.chains.By.the-variants.{NetOf}
-use Rattle.board.specs.Chains.{keyed, Chains}
+use Rattle.board.specs.Chains.{NetOf, keyed, Chains}
 use Rattle.board.specs.Driving.{driverIn, conflictOf, conflictAt}
 use Rattle.board.proofs.Chaining.{Walking, keyed-net}
 use Rattle.board.proofs.Walks.{link-low, from-link, step, on-chain, hit, missed}

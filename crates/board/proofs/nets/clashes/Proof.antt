@@ -11,8 +11,7 @@ use Rattle.rules.specs.File.{Board, boardOf, cellsOf, netsOf}
 use Rattle.rules.specs.Drivers.{outputOf}
 use Rattle.rules.specs.Refusals.{clashing}
 use Rattle.rules.proofs.Tests.{left}
-use Rattle.board.specs.declared.chains.By.the-variants.{NetOf}
-use Rattle.board.specs.Chains.{keyed}
+use Rattle.board.specs.Chains.{NetOf, keyed}
 use Rattle.board.specs.Driving.{conflictAt}
 use Rattle.board.proofs.Chaining.{Walking, keyed-net}
 use Rattle.board.proofs.Clashing.{atOdds, clashing-odds}

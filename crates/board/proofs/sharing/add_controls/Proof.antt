@@ -5,8 +5,7 @@ use mathlib.Core.Bool.{Bool}
 use native.Mathlib.Omega.{arith}
 use Rattle.rules.specs.File.{boardOf, cellsOf}
 use Rattle.words.specs.Sets.{member}
-use Rattle.board.specs.declared.chains.By.the-variants.{NetOf}
-use Rattle.board.specs.Chains.{keyed}
+use Rattle.board.specs.Chains.{NetOf, keyed}
 use Rattle.board.proofs.Walks.{net-in, head-low, link-low}
 use Rattle.board.proofs.Gathering.{Gathered, gather-start, gather-on, gather-next, gather-ended}
 use Rattle.board.proofs.Brought.{bringsAbove, brings-net, control-grown, all-controls}

@@ -9,8 +9,7 @@ use lib.ListN.{length}
 use Rattle.rules.specs.File.{Board, boardOf, cellsOf}
 use Rattle.words.specs.Sets.{netWords, member, nothing}
 use Rattle.words.proofs.Members.{member-zeros}
-use Rattle.board.specs.declared.chains.By.the-variants.{ControlCell}
-use Rattle.board.specs.Chains.{keyed}
+use Rattle.board.specs.Chains.{ControlCell, keyed}
 use Rattle.board.proofs.Walks.{cell-in, head-low, link-low}
 use Rattle.board.proofs.Gathering.{Gathered, gather-start, gather-on, gather-next, gather-ended}
 use Rattle.board.proofs.Brought.{brings, brings-control, net-brought, all-nets, chained-net}

@@ -7,8 +7,7 @@ use borrow.Author.Needs.{needs}
 use native.Mathlib.Omega.{arith}
 use Rattle.rules.specs.File.{Board, boardOf, cellsOf}
 use Rattle.words.specs.Sets.{member, nothing}
-use Rattle.board.specs.declared.chains.By.the-variants.{ControlCell}
-use Rattle.board.specs.Chains.{keyed}
+use Rattle.board.specs.Chains.{ControlCell, keyed}
 use Rattle.board.proofs.Walks.{cell-in, head-low, link-low}
 use Rattle.board.proofs.Gathering.{Gathered, gather-start, gather-on, gather-next, gather-ended}
 use Rattle.board.proofs.Brought.{sharesAbove, shares-control, sharers-grown, all-sharers}
