@@ -1,11 +1,11 @@
 // Records and cells: what stands at a position of the board file.
 ghost use mathlib.Core.Path.{_≡_};
-ghost use Prim.Native.Nat.{_<_, _≤_};
+ghost use Prim.Native.Nat.{_<_, _/_};
 ghost use mathlib.Core.List.{_∷_, []};
 ghost use Rattle.rules.specs.File.{recordAt, ofKind2, recordOf, brokenAt, boardOf, cellsOf};
-ghost use Rattle.rules.specs.Refusals.{judge, each};
+ghost use Rattle.rules.specs.Refusals.{judge, each, mostCells};
 ghost use Rattle.rules.specs.File as File;
-ghost use Rattle.rules.specs.File.{tableOf, netOf};
+ghost use Rattle.rules.specs.File.{blockRecords, tableOf, netOf};
 ghost use mathlib.Core.Bool.{_&&_};
 ghost use Rattle.board.specs.Whole.{Shaped, Sized, Whole};
 use blocks::BLOCK_RECORDS;
@@ -26,12 +26,25 @@ const FIRST_RECORD: usize = BLOCK_SIZE + HEAD_SIZE;
 
 const SPARE_BYTES: usize = BLOCK_SIZE - RECORD_SIZE * BLOCK_RECORDS;
 
+// 1,561 / 131,072 is 1 / 84, and so little more that below 1,024 no position comes into the next block.
+const NEAR_84TH: usize = 1561;
+
+const NEAR_84TH_OF: usize = 131072;
+
+// The block of cells of position p, counted from 0: p / 84 by one product, since every record read asks for it.
+fn block_of(p: usize) -> usize
+    requires { ⌜ p < mostCells ⌝ }
+    ensures { λ r. ⌜ r ≡ p / blockRecords ⌝ }
+{
+    p * NEAR_84TH / NEAR_84TH_OF
+}
+
 // Where the record of position p begins: records follow each other, but for the spare bytes of the blocks between.
 fn record_start(p: usize) -> usize
-    requires { ⌜ p ≤ 65535 ⌝ }
+    requires { ⌜ p < mostCells ⌝ }
     ensures { λ r. ⌜ r ≡ recordAt p ⌝ }
 {
-    FIRST_RECORD + RECORD_SIZE * p + SPARE_BYTES * (p / BLOCK_RECORDS)
+    FIRST_RECORD + RECORD_SIZE * p + SPARE_BYTES * block_of(p)
 }
 
 // k is the position of a kind 2 cell.

@@ -22,7 +22,12 @@ unfolding ofKind2
 past file cells k e l = rw (← e, le-ltb k cells l)
 
 record-start-requires : tie.Need-record-start-requires
-record-start-requires c κs = search needs
+record-start-requires c κs =
+    let pre = c .before .before .pre in
+    let e = pre .1 in
+    let l = c .if1 .taken in
+    let f = few _ (c .before .before .args .k) (pre .0) (omega arith) in
+    omega arith
 
 shared-slice-read-result : tie.Need-shared-slice-read-result
 shared-slice-read-result c =
