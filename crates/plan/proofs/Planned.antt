@@ -14,6 +14,7 @@ use Rattle.rules.specs.Refusals.{judge, once, boardChecks, countChecks, fileChe
 use Rattle.rules.specs.Vectors.{Bases, codeWidth, widthOf, patternOf, basesOf, stepsOf, vectorOf, planOf, totalOf, vectorAt}
 use Rattle.rules.specs.declared.Step.{Step}
 use Rattle.rules.specs.declared.Step.the-variants.{Base}
+use Rattle.rules.specs.declared.Verdict.{Verdict}
 use Rattle.rules.specs.declared.Verdict.the-variants.{Accepted}
 use Rattle.rules.proofs.Degree.{degree-drivers}
 use Rattle.rules.proofs.Selection.{sound}
@@ -21,8 +22,9 @@ use Rattle.rules.proofs.Shape.{laid, shaped}
 use Rattle.rules.proofs.Verdicts.{Then, then-append, append-pass, all-pass, accepted}
 use Rattle.plan.specs.declared.steps.Plan.{Plan}
 use Rattle.words.specs.Sets.{upTo}
+use Rattle.board.specs.Verdict.{Filled}
 use Rattle.plan.specs.Plans.{basesFor, Small}
-use Rattle.plan.specs.Planning.{PlanOf}
+use Rattle.plan.specs.Planning.{PlanOf, Admitted}
 use Rattle.plan.proofs.Coding.{width-some, width-low}
 
 -- the plan that the board's numbers make
@@ -104,6 +106,12 @@ row-count file = then-append (boardChecks file) (once 12 (ltb mostVectors (total
 pub board-accepted : (file : List ℕ) → judge (countChecks file) ≡ Accepted → judge (boardChecks file) ≡ Accepted
 unfolding countChecks
 board-accepted file e = accepted (boardChecks file) (append-pass (boardChecks file) _ (all-pass (countChecks file) e) .0)
+
+-- what admit's answer says once it accepts
+pub admitted : (file heads links net-heads net-links counts : List ℕ) (v : Verdict) → v ≡ judge (countChecks file) → v ≡ Accepted → (judge (countChecks file) ≡ Accepted → Filled file heads links net-heads net-links counts) → Admitted file heads links counts
+admitted file heads links net-heads net-links counts v e told filled =
+    let ok = sym e ∙ told in
+    record { counted = ok; ready = record { accepted = board-accepted file ok; by-control = filled ok .by-control; counted = filled ok .counted } }
 
 pub check-is : (b : Board) (p : Plan) → PlanOf b p → judge (once 12 (ltb mostVectors (length (stepsOf (basesFor p)))) ∷ []) ≡ judge (once 12 (ltb mostVectors (totalOf b)) ∷ [])
 check-is b p h = ap (λ (x : ℕ). judge (once 12 (ltb mostVectors x) ∷ [])) (total-is b p h)

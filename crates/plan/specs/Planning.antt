@@ -1,8 +1,13 @@
--- A board's plan. Assumes nothing.
+-- A board's plan, and a board that has one. Assumes nothing.
+use Prim.Native.Nat.{ℕ}
 use mathlib.Core.Path.{_≡_}
+use mathlib.Core.List.{List}
 use Rattle.rules.specs.File.{Board}
 use Rattle.rules.specs.Drivers.{groupsOf}
+use Rattle.rules.specs.Refusals.{judge, countChecks}
 use Rattle.rules.specs.Vectors.{widthOf}
+use Rattle.rules.specs.declared.Verdict.the-variants.{Accepted}
+use Rattle.select.specs.Turns.{Ready}
 use Rattle.plan.specs.declared.steps.Plan.{Plan}
 
 -- the plan's four numbers are the board's N, p, G and SSOL
@@ -11,3 +16,8 @@ pub record PlanOf (b : Board) (p : Plan) : Type 0 where
   pub wide-are : p .wide ≡ widthOf b
   pub groups-are : p .groups ≡ groupsOf b
   pub limit-are : p .limit ≡ b .limit
+
+-- checks 1 to 12 accept the file, and the tables are its own
+pub record Admitted (file heads links counts : List ℕ) : Type 0 where
+  pub counted : judge (countChecks file) ≡ Accepted
+  pub ready : Ready file heads links counts

@@ -2,7 +2,8 @@
 ghost use mathlib.Core.Path.{_≡_};
 ghost use Rattle.rules.specs.Answers.{countAnswer, countOutcome, groupsAnswer, groupsOutcome, vectorAnswer, vectorOutcome, marksAnswer, marksOutcome};
 ghost use Rattle.board.specs.Verdict.{Blank};
-ghost use Rattle.rigcandle.specs.Asking.{Admitted, BlankTable};
+ghost use Rattle.plan.specs.Planning.{Admitted};
+ghost use Rattle.rigcandle.specs.Asking.{BlankTable};
 use crate::packing::count_bits;
 use crate::packing::group_bits;
 use crate::packing::marks_bits;

@@ -1,7 +1,7 @@
 -- The verdict on the board and its plan, then the answer.
-use mathlib.Core.Path.{sym, _∙_}
+use mathlib.Core.Path.{_∙_}
 use borrow.Author.Needs.{needs}
-use Rattle.plan.proofs.Planned.{board-accepted}
+use Rattle.plan.proofs.Planned.{admitted}
 use Rattle.rigcandle.proofs.Answering.{count-refused}
 use Rattle.rigcandle.proofs.questions.ask_count.Statement.{statement}
 use Rattle.rigcandle.proofs.questions.ask_count.Tie as tie
@@ -13,9 +13,7 @@ returns c =
 answer-count-requires : tie.Need-answer-count-requires
 answer-count-requires c κs =
     let v = c .before .before .before .before .before .before .before .before .before .before .before .before .before .before .before .admit .ensures in
-    let ok = sym (v .0) ∙ c .before .before .before .enum-told .given .1 in
-    let f = v .1 ok in
-    record { counted = ok; ready = record { accepted = board-accepted _ ok; by-control = f .by-control; counted = f .counted } }
+    admitted _ _ _ _ _ _ _ (v .0) (c .before .before .before .enum-told .given .1) (v .1)
 
 pub ask-count-spec : {M : Type 1} → statement M
 ask-count-spec =

@@ -1,8 +1,8 @@
 -- The verdict on the board and its plan, then the answer.
-use mathlib.Core.Path.{sym, _∙_}
+use mathlib.Core.Path.{_∙_}
 use borrow.Author.Needs.{needs}
 use Rattle.rules.proofs.Verdicts.{stopped}
-use Rattle.plan.proofs.Planned.{board-accepted}
+use Rattle.plan.proofs.Planned.{admitted}
 use Rattle.rigcandle.proofs.Answering.{row-vector, vector-refused}
 use Rattle.rigcandle.proofs.questions.ask_vector.Statement.{statement}
 use Rattle.rigcandle.proofs.questions.ask_vector.Tie as tie
@@ -17,9 +17,7 @@ returns c =
 answer-vector-requires : tie.Need-answer-vector-requires
 answer-vector-requires c κs =
     let v = c .before .before .before .before .before .before .before .before .before .before .before .before .before .before .before .before .admit .ensures in
-    let ok = sym (v .0) ∙ c .before .before .before .before .enum-told .given .1 in
-    let f = v .1 ok in
-    record { counted = ok; ready = record { accepted = board-accepted _ ok; by-control = f .by-control; counted = f .counted } }
+    admitted _ _ _ _ _ _ _ (v .0) (c .before .before .before .before .enum-told .given .1) (v .1)
 
 pub ask-vector-spec : {M : Type 1} → statement M
 ask-vector-spec =
