@@ -1,19 +1,18 @@
 -- What a whole chain brings: a control cell's nets, a net's control cells, and the control cells that share a net.
-use Prim.Native.Nat.{ℕ, _*_, _<_, _≤_}
-use mathlib.Core.Path.{_≡_, refl, sym, _∙_, ap, ap₂, fun-ext}
-use mathlib.Core.Logic.{⊎-elim}
-use mathlib.Core.Bool.{Bool, true, false, _&&_, _||_, and-true, or-comm}
+use Prim.Native.Nat.{ℕ, _*_, _<_}
+use mathlib.Core.Path.{_≡_, sym, _∙_, ap, fun-ext}
+use mathlib.Core.Bool.{Bool, true, _&&_, _||_, and-true, or-comm}
 use mathlib.Core.List.{List}
 use native.Mathlib.Omega.{arith}
 use borrow.Author.Tests.{eqb-true, eq-eqb}
 use lib.Dec.{eqb, ltb}
 use Rattle.rules.specs.Basics.{any}
 use Rattle.rules.specs.File.{Board, boardOf, cellsOf, netsOf, netOf}
-use Rattle.rules.specs.Drivers.{controlled, controlFor, alwaysOn, onNet, outputOf, driverOf, drives, meets}
+use Rattle.rules.specs.Drivers.{controlled, controlFor, onNet, outputOf, driverOf, drives, meets}
 use Rattle.rules.specs.Refusals.{judge, fileChecks}
 use Rattle.rules.specs.declared.Verdict.the-variants.{Accepted}
 use Rattle.rules.proofs.Tests.{left, right, both, or-left, same-test, any-at, any-member}
-use Rattle.rules.proofs.Driving.{driver-output, drives-driver, driver-drives, meets-at, meets-net}
+use Rattle.rules.proofs.Driving.{driver-output, drives-driver, driver-own, meets-at, meets-net}
 use Rattle.rules.proofs.Shape.{laid, shaped, whole-records}
 use Rattle.rules.proofs.Acceptance.{kept-net}
 use Rattle.words.specs.Sets.{netWords, nothing, plus}
@@ -90,10 +89,6 @@ all-controls file low n f s h =
     fun-ext (λ j. h j ∙ or-comm (f j) _ ∙ ap (λ (x : Bool). x || f j) (any-both (cellsOf file) (brings (boardOf file) j n) (ltb low j)))
 
 -- a driver's own net is in its control cell's set
-pub driver-own : (b : Board) (c : ℕ) → c < b .size → controlled b c ≡ true → drives b (controlFor b c) (netOf (b .cell c)) ≡ true
-unfolding driverOf onNet
-driver-own b c l x = driver-drives b (netOf (b .cell c)) c l (both (eq-eqb (netOf (b .cell c)) (netOf (b .cell c)) refl) x)
-
 pub own-net : (b : Board) (k c : ℕ) → c < b .size → keyed b ControlCell k c ≡ true → drives b k (netOf (b .cell c)) ≡ true
 own-net b k c l h =
     let e = eqb-true (controlFor b c) k (right (controlled b c) (sym (keyed-control b k c) ∙ h)) in
@@ -115,18 +110,20 @@ module _ (b : Board) (known : (c : ℕ) → c < b .size → controlled b c ≡ t
       let at = eqb-true (netOf (b .cell (c .0))) (n .0) (left (onNet b (n .0) (c .0)) _ (c .2)) in
       any-at _ _ (c .1) (both on (rw at (n .3)))
 
+-- the net of a driver is one of the file's
+pub known-net : (file : List ℕ) → judge (fileChecks file) ≡ Accepted → (c : ℕ) → c < cellsOf file → controlled (boardOf file) c ≡ true → netOf (boardOf file .cell c) < netsOf file
+unfolding boardOf
+known-net file ok c l x = kept-net file (whole-records file ok) c l (or-left _ x)
+
 pub all-sharers : (file : List ℕ) → judge (fileChecks file) ≡ Accepted → (k : ℕ) (s : ℕ → Bool) → ((j : ℕ) → s j ≡ (nothing j || any (cellsOf file) (sharesAbove (boardOf file) k j))) → s ≡ partnersOf (boardOf file) k
 unfolding boardOf partnersOf
 all-sharers file ok k s h =
-    fun-ext (λ j. h j ∙ any-both (cellsOf file) (shares (boardOf file) k j) (ltb k j) ∙ ap (λ (x : Bool). x && ltb k j) (same-test _ _ (shares-meets (boardOf file) known k j) (meets-shares (boardOf file) known k j)))
-  where
-    known : (c : ℕ) → c < cellsOf file → controlled (boardOf file) c ≡ true → netOf (boardOf file .cell c) < netsOf file
-    known c l x = kept-net file (whole-records file ok) c l (or-left _ x)
+    fun-ext (λ j. h j ∙ any-both (cellsOf file) (shares (boardOf file) k j) (ltb k j) ∙ ap (λ (x : Bool). x && ltb k j) (same-test _ _ (shares-meets (boardOf file) (known-net file ok) k j) (meets-shares (boardOf file) (known-net file ok) k j)))
 
 -- the net of a driver on a chain fits a set of nets
 pub chained-net : (file : List ℕ) → judge (fileChecks file) ≡ Accepted → (k c : ℕ) → c < cellsOf file → keyed (boardOf file) ControlCell k c ≡ true → netOf (boardOf file .cell c) < 64 * netWords
 unfolding boardOf
 chained-net file ok k c l h =
-    let b = kept-net file (whole-records file ok) c l (or-left _ (keyed-controlled (boardOf file) k c h)) in
+    let b = known-net file ok c l (keyed-controlled (boardOf file) k c h) in
     let f = laid file (shaped file ok) .nets .few in
     omega arith

@@ -1,27 +1,26 @@
 -- Laws of chains: what `last` gives, and what one more output does to a head and a link.
 use Prim.Native.Nat.{ℕ, zero, suc, _+_, _<_, _≤_}
-use mathlib.Core.Path.{_≡_, refl, sym, _∙_, ap}
-use mathlib.Core.Logic.{_⊎_, inl, inr, ⊎-elim}
+use mathlib.Core.Path.{_≡_, refl, sym, _∙_}
+use mathlib.Core.Logic.{_⊎_, ⊎-elim}
 use mathlib.Core.Bool.{Bool, true, false, cond, _&&_, _||_, false≢true, and-true, and-false}
 use mathlib.Core.List.{List}
 use native.Mathlib.Numerals.{add-one}
 use native.Mathlib.Omega.{arith}
-use borrow.Author.Tests.{eqb-true, eq-eqb, ne-eqb}
+use borrow.Author.Tests.{eqb-true, eq-eqb}
 use lib.Dec.{eqb}
 use lib.ListN.{length, getD, set, length-set}
 use lib.Seq.{getD-set-same, getD-set-other}
 use Rattle.rules.specs.Basics.{any}
 use Rattle.rules.specs.File.{Board, boardOf, cellsOf, kindOf, controlOf, netOf, brokenAt}
 use Rattle.rules.specs.Drivers.{controlled, controlFor, alwaysOn, onNet, outputOf}
-use Rattle.rules.specs.Refusals.{judge, mostCells, fileChecks}
+use Rattle.rules.specs.Refusals.{judge, fileChecks}
 use Rattle.rules.specs.declared.Cell.{Cell}
 use Rattle.rules.specs.declared.Cell.the-variants.{Internal, Input, Control, ThreeState, TwoState}
 use Rattle.rules.specs.declared.Verdict.the-variants.{Accepted}
-use Rattle.rules.proofs.Shape.{laid, shaped, whole-records}
+use Rattle.rules.proofs.Shape.{whole-records}
 use Rattle.rules.proofs.Acceptance.{kept-control, kept-net}
-use Rattle.rules.proofs.Tests.{decided, fails-if, clashes, below-suc, any-at, any-member, same-test}
+use Rattle.rules.proofs.Tests.{decided, fails-if, clashes, below-suc}
 use Rattle.board.specs.Chains.{By, ControlCell, NetOf, last, keyOf, isKey, keyed, keysOf, Linked}
-use Rattle.board.specs.declared.chains.Key.{Key}
 use Rattle.board.specs.declared.chains.Key.the-variants.{Of, Nothing}
 
 -- one more number: it is the last where it passes, else the last stays

@@ -1,8 +1,8 @@
 -- Refusal 8 along a net's chain: two outputs of a net clash where some output of it may not stand beside a lower one.
 use Prim.Native.Nat.{ℕ, _<_, _≤_}
-use mathlib.Core.Path.{_≡_, refl, sym, _∙_, ap}
+use mathlib.Core.Path.{_≡_, refl, sym, _∙_}
 use mathlib.Core.Logic.{_⊎_, inl, inr, ⊎-elim}
-use mathlib.Core.Bool.{Bool, true, false, not, _&&_, _||_, true≢false}
+use mathlib.Core.Bool.{Bool, true, not, _&&_, _||_}
 use native.Mathlib.Nat.{eq-or-lt-of-le}
 use native.Mathlib.Omega.{arith}
 use borrow.Author.Tests.{eqb-true, eqb-false, eq-eqb, ne-eqb}
@@ -11,9 +11,6 @@ use Rattle.rules.specs.Basics.{any}
 use Rattle.rules.specs.File.{Board}
 use Rattle.rules.specs.Drivers.{controlled, controlFor, alwaysOn, onNet, outputOf}
 use Rattle.rules.specs.Refusals.{clash, clashing}
-use Rattle.rules.specs.declared.Cell.{Cell}
-use Rattle.rules.specs.declared.Position.{Position}
-use Rattle.rules.specs.declared.Net.{Net}
 use Rattle.rules.proofs.Tests.{left, right, both, or-left, or-right, or-cases, not-fails, fails-not, clashes, order, any-at, any-member, same-test}
 use Rattle.rules.proofs.Driving.{kinds-differ}
 use Rattle.board.specs.Driving.{driverIn, conflictOf, conflictAt}

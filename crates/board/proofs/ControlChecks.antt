@@ -2,23 +2,22 @@
 -- control cell's chain is an unequal pair.
 use Prim.Native.Nat.{ℕ, _*_, _+_, _-_, _<_, _≤_}
 use mathlib.Core.Path.{_≡_, refl, sym, _∙_, ap, ap₂}
-use mathlib.Core.Logic.{_⊎_, inl, inr, ⊎-elim}
-use mathlib.Core.Bool.{Bool, true, false, cond, not, _&&_, _||_}
+use mathlib.Core.Logic.{_⊎_, ⊎-elim}
+use mathlib.Core.Bool.{Bool, true, false, not, _&&_}
 use mathlib.Core.List.{List}
 use native.Mathlib.Omega.{arith}
 use borrow.Author.Tests.{eqb-true, eqb-false, eq-eqb, ne-eqb, lt-ltb, ltb-true}
 use lib.Dec.{eqb, ltb}
-use lib.ListN.{getD}
 use Rattle.rules.specs.Basics.{any, seek}
 use Rattle.rules.specs.File.{Board, boardOf, cellsOf, netsOf, netOf}
 use Rattle.rules.specs.Drivers.{controlled, controlFor, isControl, onNet, driverOf, drives, drivers, meets, inside, crosses}
-use Rattle.rules.specs.Refusals.{judge, crossed, unequal, fileChecks, mostCells}
+use Rattle.rules.specs.Refusals.{judge, crossed, unequal, fileChecks}
 use Rattle.rules.specs.declared.Verdict.the-variants.{Accepted}
-use Rattle.rules.proofs.Tests.{decided, left, right, both, or-left, not-fails, fails-not, clashes, fails-if, passes-if, order, same-test, any-at, any-member, any-none, none-any, Lowest, seek-lowest}
+use Rattle.rules.proofs.Tests.{decided, left, right, both, or-left, not-fails, fails-not, clashes, fails-if, order, same-test, any-at, any-member, none-any, seek-lowest}
 use Rattle.rules.proofs.Driving.{drives-driver, meets-net}
 use Rattle.rules.proofs.Shape.{laid, shaped, whole-records}
 use Rattle.rules.proofs.Acceptance.{kept-control, kept-net}
-use Rattle.words.specs.Sets.{netWords, cellWords, member, meetsIn, insideIn, lieBy, lieOf}
+use Rattle.words.specs.Sets.{netWords, cellWords, meetsIn, insideIn, lieBy, lieOf}
 use Rattle.words.proofs.Bounds.{meets-bound, inside-bound}
 use Rattle.board.specs.Chains.{ControlCell, keyed}
 use Rattle.board.specs.Sharing.{partnersOf}
@@ -192,9 +191,6 @@ module _ (b : Board) (known : (c : ℕ) → c < b .size → controlled b c ≡ t
 
 -- over a file
 module _ (file : List ℕ) (ok : judge (fileChecks file) ≡ Accepted) (k : ℕ) where
-  pub other-keyed : (first c : ℕ) → other (boardOf file) (known file ok) k first c ≡ true → keyed (boardOf file) ControlCell k c ≡ true
-  other-keyed first c h = left (keyed (boardOf file) ControlCell k c) _ h
-
   pub unequal-by : (h first : ℕ) (r : Bool) → h < cellsOf file → keyed (boardOf file) ControlCell k h ≡ true → first ≡ driversAt (boardOf file) h → any (cellsOf file) (other (boardOf file) (known file ok) k first) ≡ r → r ≡ unequal (boardOf file) k
   unfolding boardOf
   unequal-by h first r l key e t = sym (unequal-other (boardOf file) (known file ok) k h first l key e ∙ t)

@@ -1,18 +1,18 @@
 -- Laws of what a cell drives: a controlled driver with its control cell and net, and what one more driver does to the counts.
-use Prim.Native.Nat.{ℕ, suc, _+_, _<_, _≤_}
+use Prim.Native.Nat.{ℕ, _+_, _<_, _≤_}
 use mathlib.Core.Path.{_≡_, refl, sym, _∙_, ap}
 use mathlib.Core.Logic.{⊎-elim}
-use mathlib.Core.Bool.{Bool, true, false, _&&_, _||_, and-true, and-false, false≢true, true≢false}
+use mathlib.Core.Bool.{true, false, and-true, and-false, true≢false}
 use mathlib.Core.List.{List}
 use native.Mathlib.Numerals.{add-one}
 use native.Mathlib.Omega.{arith}
-use borrow.Author.Tests.{eqb-true, eq-eqb, ne-eqb}
+use borrow.Author.Tests.{eqb-true, eq-eqb}
 use lib.Dec.{eqb}
 use lib.ListN.{length, getD, set, length-set}
 use lib.Seq.{getD-set-same, getD-set-other}
 use Rattle.rules.specs.Basics.{count, digit}
 use Rattle.rules.specs.File.{Board, boardOf, cellsOf, netsOf, kindOf, controlOf, netOf}
-use Rattle.rules.specs.Drivers.{controlled, controlFor, alwaysOn, onNet, driverOf}
+use Rattle.rules.specs.Drivers.{controlled, controlFor, onNet, driverOf}
 use Rattle.rules.specs.Refusals.{judge, fileChecks}
 use Rattle.rules.specs.declared.Cell.{Cell}
 use Rattle.rules.specs.declared.Cell.the-variants.{Internal, Input, Control, ThreeState, TwoState}
@@ -23,7 +23,6 @@ use Rattle.rules.proofs.Tests.{decided, or-left, count-le}
 use Rattle.rules.proofs.Shape.{whole-records}
 use Rattle.rules.proofs.Acceptance.{kept-control, kept-net}
 use Rattle.board.specs.Driving.{driverIn, Counted}
-use Rattle.board.specs.declared.drivers.Driver.{Driver}
 use Rattle.board.specs.declared.drivers.Driver.the-variants.{Of, Nothing}
 
 -- what a controlled driver is

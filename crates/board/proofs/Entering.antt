@@ -15,11 +15,9 @@ use Rattle.rules.specs.declared.Net.{Net}
 use Rattle.rules.specs.declared.Verdict.the-variants.{Accepted}
 use Rattle.rules.proofs.Shape.{laid, shaped}
 use Rattle.board.specs.Chains.{By, ControlCell, NetOf, keyOf, keysOf, Grown, Linkable}
-use Rattle.board.specs.Driving.{driverIn, Counted}
+use Rattle.board.specs.Driving.{driverIn}
 use Rattle.board.specs.Verdict.{Zero, Blank, Entered}
-use Rattle.board.specs.declared.chains.Key.{Key}
 use Rattle.board.specs.declared.chains.Key.the-variants.{Of, Nothing}
-use Rattle.board.specs.declared.drivers.Driver.{Driver}
 use Rattle.board.specs.declared.drivers.Driver.the-variants as driver
 use Rattle.board.proofs.Chaining.{linked-none, linked-skip, linked-add, key-below}
 use Rattle.board.proofs.Drives.{counted-skip, counted-add, counts-few}

@@ -1,12 +1,11 @@
 -- The order of the checks: the file's, and then the nets' and the control cells', each row as its first check and then the rest.
 use Prim.Native.Nat.{ℕ}
-use mathlib.Core.Path.{_≡_, refl, sym, _∙_, ap}
-use mathlib.Core.Bool.{false, not}
+use mathlib.Core.Path.{_≡_}
+use mathlib.Core.Bool.{not}
 use mathlib.Core.List.{List, [], _∷_, _++_, append-assoc}
 use Rattle.rules.specs.File.{Board, boardOf, blocksIn, sumsRight, headerRight, cellsOf, brokenAt}
 use Rattle.rules.specs.Refusals.{Check, judge, once, each, wrongLength, outside, blockWrong, crossed, unequal, shapeChecks, fileChecks, netChecks, controlChecks, earlyChecks, boardChecks}
-use Rattle.rules.specs.declared.Verdict.{Verdict}
-use Rattle.rules.specs.declared.Verdict.the-variants.{Accepted, Refused}
+use Rattle.rules.specs.declared.Verdict.the-variants.{Accepted}
 use Rattle.rules.proofs.Verdicts.{Then, then-append, all-pass, accepted}
 
 module _ (file : List ℕ) where

@@ -18,3 +18,6 @@ few file p s l = let c = laid file (s .shape) .cells .few in omega arith
 -- a whole file is shaped
 pub whole-shaped : (file : List ℕ) (p : ℕ) → Whole file p → Shaped file
 whole-shaped file p w = record { shape = shaped file (w .checked) }
+
+pub in-record : (file : List ℕ) (p at : ℕ) → Whole file p → at ≡ recordAt p → at + recordSize ≤ length file
+in-record file p at w e = inside file p at (whole-shaped file p w) (w .below) e

@@ -1,13 +1,12 @@
 -- Laws of the sets that walks gather: what one driver brings, and which numbers fit a set.
 use Prim.Native.Nat.{ℕ, _<_, _≤_, _*_}
-use mathlib.Core.Path.{_≡_, refl, sym, _∙_, ap, fun-ext}
-use mathlib.Core.Bool.{Bool, true, false, _&&_, _||_, false≢true}
+use mathlib.Core.Path.{_≡_, sym, _∙_, ap, fun-ext}
+use mathlib.Core.Bool.{Bool, _&&_, _||_}
 use mathlib.Core.List.{List}
 use native.Mathlib.Omega.{arith}
 use borrow.Author.Tests.{eqb-true, eq-eqb, lt-ltb, ltb-true}
 use lib.Dec.{eqb, ltb}
-use Rattle.rules.specs.File.{Board, boardOf, cellsOf, netsOf, netOf}
-use Rattle.rules.specs.Drivers.{controlled, controlFor, driverOf, drives}
+use Rattle.rules.specs.File.{Board, boardOf}
 use Rattle.rules.specs.declared.Cell.{Cell}
 use Rattle.rules.specs.declared.Position.{Position}
 use Rattle.rules.specs.declared.Net.{Net}

@@ -1,15 +1,14 @@
 -- Walks along the chains of a whole file, from a head or a link down to the last: what each step of such a loop needs.
-use Prim.Native.Nat.{ℕ, zero, suc, _+_, _-_, _<_, _≤_}
-use mathlib.Core.Path.{_≡_, refl, sym, _∙_, ap}
+use Prim.Native.Nat.{ℕ, suc, _-_, _<_, _≤_}
+use mathlib.Core.Path.{_≡_, sym, _∙_}
 use mathlib.Core.Bool.{Bool, true, false}
 use mathlib.Core.List.{List}
-use native.Mathlib.Nat.{suc-sub-suc, sub-zero}
 use native.Mathlib.Omega.{arith}
 use lib.ListN.{length, getD}
 use Rattle.rules.specs.Basics.{any}
 use Rattle.rules.specs.File.{boardOf, cellsOf, netsOf}
 use Rattle.rules.proofs.Tests.{any-none}
-use Rattle.board.specs.Chains.{By, ControlCell, NetOf, keyed, keysOf, last, Chains}
+use Rattle.board.specs.Chains.{By, ControlCell, NetOf, keyed, keysOf, Chains}
 use Rattle.board.proofs.Chaining.{last-le, Walking, walk-start, walk-next, walk-found, walk-ended, walk-member}
 
 -- 1 + (at - 1) is at

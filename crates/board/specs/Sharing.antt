@@ -3,7 +3,7 @@ use Prim.Native.Nat.{ℕ}
 use mathlib.Core.Bool.{Bool, _&&_, _||_}
 use lib.Dec.{eqb, ltb}
 use Rattle.rules.specs.File.{Board, netOf}
-use Rattle.rules.specs.Drivers.{controlled, controlFor, driverOf, drives, meets}
+use Rattle.rules.specs.Drivers.{controlled, controlFor, drives, meets}
 
 -- a set of cells with the control cell of the driver at c besides, if it is above low
 unfoldable pub withControl : Board → ℕ → ℕ → (ℕ → Bool) → ℕ → Bool

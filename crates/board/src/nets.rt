@@ -8,7 +8,7 @@ ghost use Rattle.rules.specs.Basics.{any};
 ghost use Rattle.rules.specs.File.{boardOf, cellsOf, netsOf};
 ghost use Rattle.rules.specs.Refusals.{judge, each, clashing, netChecks};
 ghost use Rattle.board.specs.Chains.{NetOf, keyed, Chains};
-ghost use Rattle.board.specs.Driving.{driverIn, controlIn, conflictAt, Counted};
+ghost use Rattle.board.specs.Driving.{driverIn, controlIn, conflictAt};
 ghost use Rattle.board.specs.Nets.{outside, outsideAt, Checkable};
 ghost use Rattle.board.specs.Whole.{Whole};
 use crate::cells::cell_at;

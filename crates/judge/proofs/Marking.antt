@@ -45,7 +45,8 @@ unfolding bytesThat
 bytes-more test [] byte = omega arith
 bytes-more test (x ∷ bytes) byte = let r = bytes-more test bytes byte in omega arith
 
-bytes-few : (test : ℕ → Bool) (bytes : List ℕ) → bytesThat test bytes ≤ length bytes
+-- no count is above the number of bytes
+pub bytes-few : (test : ℕ → Bool) (bytes : List ℕ) → bytesThat test bytes ≤ length bytes
 unfolding bytesThat
 bytes-few test [] = omega arith
 bytes-few test (x ∷ bytes) = let r = bytes-few test bytes in let d = digit-few (test x) _ refl in omega arith

@@ -1,6 +1,6 @@
 -- What a step's case tells of it, and a set of differing nets that change sides.
 use Prim.Native.Nat.{ℕ, zero, suc, _+_, _*_, _/_, _≤_, _<_}
-use mathlib.Core.Path.{_≡_, refl, sym, _∙_, ap, ap₂, subst, fun-ext}
+use mathlib.Core.Path.{_≡_, refl, _∙_, ap, ap₂, fun-ext}
 use mathlib.Core.Bool.{Bool, true, false, cond, xor, _&&_, and-false}
 use native.Mathlib.Nat.{zero-mul, le-trans, div-le-self, mul-le-mul-left, mul-le-mul-right}
 use native.Mathlib.Omega.{arith}
@@ -8,7 +8,7 @@ use borrow.Author.Tests.{le-ltb}
 use lib.Dec.{ltb}
 use lib.ListN.{length, getD}
 use Rattle.rules.specs.Basics.{count, table}
-use Rattle.rules.specs.Vectors.{Vector, Bases, among, differs, insertedAfter, between, stepsOf, vectorOf}
+use Rattle.rules.specs.Vectors.{among, differs, insertedAfter, between, stepsOf, vectorOf}
 use Rattle.rules.specs.declared.Step.{Step}
 use Rattle.rules.specs.declared.Step.the-variants.{Base, Inserted}
 use Rattle.rules.proofs.Digits.{length-table, table-at}

@@ -11,7 +11,7 @@ use lib.Dec.{ltb, eqb}
 use lib.ListN.{getD}
 use lib.Pow.{pow-pos}
 use Rattle.rules.specs.Basics.{all, bit}
-use Rattle.rules.proofs.Tests.{all-at, clashes, order}
+use Rattle.rules.proofs.Tests.{alike, fails-not, all-at, order}
 use Rattle.words.specs.Sets.{member, nothing}
 use Rattle.words.proofs.Members.{Written}
 use Rattle.words.proofs.Words.{bit-zero, bit-pow, bit-top, bit-shifted}
@@ -21,20 +21,13 @@ abbrev lowWords : List ℕ
 lowWords =
     0x5555555555555555 ∷ 0x6666666666666666 ∷ 0x7878787878787878 ∷ 0x7f807f807f807f80 ∷ 0x7fff80007fff8000 ∷ 0x7fffffff80000000 ∷ []
 
-alike : (a b : Bool) → not (xor a b) ≡ true → a ≡ b
-unfolding xor
-alike true true h = refl
-alike true false h = absurd (clashes h refl)
-alike false true h = absurd (clashes h refl)
-alike false false h = refl
-
 -- these are their words, by a test at each digit
 right : ℕ → ℕ → Bool
 right s k = not (xor (bit (getD lowWords s 0) k) (bit (k + 1) s))
 
 low-first : (s k : ℕ) → s < 6 → k < 64 → bit (getD lowWords s 0) k ≡ bit (k + 1) s
 unfolding right all xor bit
-low-first s k l h = alike _ _ (all-at 64 (right s) (all-at 6 (λ s. all 64 (right s)) refl l) h)
+low-first s k l h = alike _ _ (fails-not _ (all-at 64 (right s) (all-at 6 (λ s. all 64 (right s)) refl l) h))
 
 -- and so are those of the next 64 codes, and so on
 same-digit : (s x y : ℕ) → x / 2 ^ s % 2 ≡ y / 2 ^ s % 2 → bit x s ≡ bit y s

@@ -1,16 +1,14 @@
 -- A board's plan: its base vectors are the board's, and its numbers are small where the board is accepted.
-use Prim.Native.Nat.{ℕ, zero, suc, _+_, _*_, _/_, _%_, _<_, _≤_, max}
+use Prim.Native.Nat.{ℕ, zero, suc, _<_, _≤_}
 use mathlib.Core.Path.{_≡_, refl, sym, _∙_, ap}
-use mathlib.Core.Logic.{⊎-elim}
-use mathlib.Core.Bool.{Bool}
-use mathlib.Core.List.{List, [], _∷_, _++_}
+use mathlib.Core.List.{List, [], _∷_}
 use native.Mathlib.Omega.{arith}
 use lib.Dec.{ltb}
 use lib.ListN.{length, getD}
 use Rattle.rules.specs.Basics.{largest}
 use Rattle.rules.specs.File.{Board, boardOf, netsOf, limitOf}
 use Rattle.rules.specs.Drivers.{degree, groupsOf}
-use Rattle.rules.specs.Refusals.{judge, once, boardChecks, countChecks, fileChecks, earlyChecks, mostVectors, mostDrivers}
+use Rattle.rules.specs.Refusals.{judge, once, boardChecks, countChecks, fileChecks, earlyChecks, mostVectors}
 use Rattle.rules.specs.Vectors.{Bases, codeWidth, widthOf, patternOf, basesOf, stepsOf, vectorOf, planOf, totalOf, vectorAt}
 use Rattle.rules.specs.declared.Step.{Step}
 use Rattle.rules.specs.declared.Step.the-variants.{Base}

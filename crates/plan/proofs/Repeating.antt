@@ -82,11 +82,6 @@ full-starts p (suc i) l =
 pub start-turns : (p : Plan) (turn j : ℕ) → turn * p .wide + j < size p → start p (turn * p .wide + j) ≡ turn * roundOf p + fullStart p j
 start-turns p turn j l = full-starts p _ l ∙ full-later p turn j ∙ ap (λ (t : ℕ). t + fullStart p j) (full-rounds p turn)
 
--- where there is a second group, it starts after one round
-pub start-round : (p : Plan) → Small p → 1 < p .groups → start p (p .wide) ≡ roundOf p
-unfolding roundOf
-start-round p s l = full-starts p (p .wide) (let m = mul-le-mul-right (p .wide) l in omega (arith, s .coded))
-
 -- a group later as many vectors follow, and the part starts a round later
 pub extra-repeats : (p : Plan) (i : ℕ) → p .wide + i + 1 < size p → insertedAfter (basesFor p) (p .wide + i) ≡ insertedAfter (basesFor p) i
 extra-repeats p i l =

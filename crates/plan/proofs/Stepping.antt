@@ -2,7 +2,7 @@
 use Prim.Native.Nat.{ℕ, zero, suc, _+_, _*_, _-_, _≤_, _<_}
 use mathlib.Core.Path.{_≡_, refl, sym, _∙_, ap}
 use mathlib.Core.Logic.{⊎-elim}
-use mathlib.Core.Bool.{Bool, false, xor}
+use mathlib.Core.Bool.{xor}
 use mathlib.Core.List.{_∷_}
 use native.Mathlib.Nat.{le-trans, mul-le-mul-left, mul-le-mul-right, eq-zero-or-pos, mul-one}
 use native.Mathlib.Numerals.{add-one}

@@ -1,6 +1,6 @@
 // The net values of a vector: those of a base vector, or of one inserted after it.
 ghost use mathlib.Core.Path.{_≡_};
-ghost use Prim.Native.Nat.{_<_, _≤_, _*_};
+ghost use Prim.Native.Nat.{_*_};
 ghost use Rattle.rules.specs.Vectors.{vectorOf};
 ghost use Rattle.rules.specs.declared.Step.the-variants.{Inserted};
 ghost use Rattle.words.specs.Sets.{member};

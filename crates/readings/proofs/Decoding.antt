@@ -2,26 +2,25 @@
 use Prim.Native.Nat.{ℕ, zero, suc, _+_, _*_, _-_, _/_, _%_, _^_, _≤_, _<_}
 use mathlib.Core.Path.{_≡_, refl, sym, _∙_, ap, ap₂, subst}
 use mathlib.Core.Logic.{⊎-elim}
-use mathlib.Core.Bool.{Bool, true, false, cond, not, xor, false≢true}
+use mathlib.Core.Bool.{Bool, true, false, cond, xor}
 use mathlib.Core.List.{List}
-use native.Mathlib.Nat.{mul-le-mul-left, mul-le-mul-right, mul-one, one-mul, le-trans, mod-eq-of-lt, div-eq-of-lt, div-one, two-pow-succ, sub-zero}
-use native.Mathlib.Numerals.{add-one, sub-one}
+use native.Mathlib.Nat.{mul-le-mul-right, one-mul, mod-eq-of-lt, div-eq-of-lt, div-one, two-pow-succ, sub-zero}
+use native.Mathlib.Numerals.{add-one}
 use native.Mathlib.Omega.{arith}
-use borrow.Author.Tests.{eqb-true, eqb-false, eq-eqb, lt-ltb, le-ltb}
+use borrow.Author.Tests.{lt-ltb, le-ltb}
 use lib.Dec.{ltb, eqb}
-use lib.ListN.{length, getD}
+use lib.ListN.{length}
 use lib.Pow.{pow-mono, shr-shr}
-use Rattle.rules.specs.Basics.{all, bit, digit, rowBytes}
-use Rattle.rules.specs.Vectors.{codeBit, codeWidth, stepsOf, vectorOf}
+use Rattle.rules.specs.Basics.{bit, digit, rowBytes}
+use Rattle.rules.specs.Vectors.{codeBit, stepsOf, vectorOf}
 use Rattle.rules.specs.declared.Step.{Step}
-use Rattle.rules.specs.declared.Step.the-variants.{Base}
-use Rattle.rules.proofs.Tests.{decided, all-at, same-test, passes-not, fails-not, order}
+use Rattle.rules.proofs.Tests.{alike, all-at, fails-not, order}
 use Rattle.words.specs.Sets.{upTo}
 use Rattle.plan.specs.declared.steps.Plan.{Plan}
 use Rattle.plan.specs.Plans.{basesFor, Small}
-use Rattle.plan.proofs.Stepping.{size, start, step-base}
-use Rattle.readings.specs.Readings.{seenAt, valueAt, offAt, readBelow, startOf, codeFrom, Mapped, Entries, Captured}
-use Rattle.readings.proofs.Places.{start-is, starts-next, part-below}
+use Rattle.plan.proofs.Stepping.{size, step-base}
+use Rattle.readings.specs.Readings.{seenAt, valueAt, offAt, readBelow, startOf, codeFrom, Mapped, Captured}
+use Rattle.readings.proofs.Places.{start-is, part-below}
 use Rattle.readings.proofs.Mapping.{mapped-same, mapped-then}
 
 -- the first group's base vectors are among all
@@ -101,15 +100,9 @@ module _ (p : Plan) (capture : List ℕ) (cells bytes : ℕ) (k : Captured p cap
   unfolding readBelow offAt xor
   reads-code n c l w r = code-is p bytes capture n c bits (omega arith)
     where
-      same : (a b : Bool) → not (xor a b) ≡ true → a ≡ b
-      same true true h = refl
-      same true false h = absurd (false≢true h)
-      same false true h = absurd (false≢true h)
-      same false false h = refl
-
       bits : (j : ℕ) → j < p .wide → seenAt capture (startOf p j * bytes) c ≡ codeBit (p .wide) j n
       bits j m =
-          same _ _ (all-at _ _ r {i = startOf p j} (let q = part-below p j 0 (startOf p j) (first-below p j (k .small) m) refl (omega arith) in omega arith))
+          alike _ _ (fails-not _ (all-at _ _ r {i = startOf p j} (let q = part-below p j 0 (startOf p j) (first-below p j (k .small) m) refl (omega arith) in omega arith)))
           ∙ first-value p j n (k .small) m l
 
 -- no entry is above the number of nets
@@ -119,10 +112,6 @@ own-low nets code =
     (λ (l : nets < code). rw (lt-ltb nets code l) (omega arith))
     (λ (l : code ≤ nets). rw (le-ltb nets code l) l)
     (order nets code)
-
-pub own-entries : (nets most cells : ℕ) (before after : List ℕ) → cells ≤ length before → nets ≤ most → Mapped (λ c code. cond (ltb nets code) 0 code) before cells after → Entries most cells after
-own-entries nets most cells before after l h m =
-    record { long = omega (arith, m .long); low = λ c q. rw (m .done c q) (le-trans (own-low nets (getD before c 0)) h) }
 
 pub captured : (p : Plan) (capture : List ℕ) (cells bytes : ℕ) → Captured p capture cells (rowBytes cells) → bytes ≡ rowBytes cells → Captured p capture cells bytes
 captured p capture cells bytes k e = subst (Captured p capture cells) (sym e) k

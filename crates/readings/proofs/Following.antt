@@ -1,24 +1,22 @@
 -- Vector by vector: the cells that are left of those that follow their nets.
 use Prim.Native.Nat.{ℕ, zero, suc, _+_, _*_, _-_, _≤_, _<_}
 use mathlib.Core.Path.{_≡_, refl, sym, _∙_, ap, ap₂}
-use mathlib.Core.Logic.{⊎-elim}
-use mathlib.Core.Bool.{Bool, true, false, not, xor, _&&_, _||_}
+use mathlib.Core.Bool.{Bool, true, false, xor, _&&_, _||_}
 use mathlib.Core.List.{List}
 use native.Mathlib.Nat.{mul-le-mul-right, one-mul}
 use native.Mathlib.Numerals.{add-one}
 use native.Mathlib.Omega.{arith}
 use borrow.Author.Tests.{lt-ltb, le-ltb}
-use lib.Dec.{ltb}
 use lib.ListN.{length, getD}
 use Rattle.rules.specs.Basics.{any}
 use Rattle.rules.specs.Vectors.{insertedAfter, stepsOf}
 use Rattle.words.specs.Sets.{nothing, unlike}
 use Rattle.plan.specs.declared.steps.Plan.{Plan}
 use Rattle.plan.specs.Plans.{basesFor, mix, Small}
-use Rattle.plan.proofs.Stepping.{size, extra-none}
+use Rattle.plan.proofs.Stepping.{size}
 use Rattle.readings.specs.Readings.{seenAt, valueAt, startOf, period, stray, strayAt, strayAfter, strayIn, otherLater, lost, Rowed, Left, Part}
 use Rattle.readings.proofs.Places.{starts-next, starts-end, part-below, part-value, row-inside}
-use Rattle.readings.proofs.Sifting.{left-none, left-then, left-same, left-all}
+use Rattle.readings.proofs.Sifting.{left-then, left-same, left-all}
 use Rattle.readings.proofs.Repeating.{base-value, next-below, starts-least}
 
 -- one vector more

@@ -6,8 +6,7 @@ use mathlib.Core.List.{List}
 use native.Mathlib.Omega.{arith}
 use lib.ListN.{length}
 use Rattle.rules.specs.Basics.{ceil, rowBytes}
-use Rattle.rules.specs.Vectors.{insertedAfter, between, weave, stepsOf, vectorOf}
-use Rattle.rules.specs.declared.Step.the-variants.{Base}
+use Rattle.rules.specs.Vectors.{insertedAfter, stepsOf}
 use Rattle.plan.specs.declared.steps.Plan.{Plan}
 use Rattle.plan.specs.Plans.{basesFor, mix}
 use Rattle.plan.proofs.Mixing.{value-at}

@@ -14,8 +14,8 @@ use lib.Pow.{shr-shr}
 use Rattle.rules.specs.Basics.{any, bit, digit, count}
 use Rattle.rules.specs.Vectors.{among, codeBit, insertedAfter, stepsOf, vectorOf}
 use Rattle.rules.specs.declared.Step.{Step}
-use Rattle.rules.proofs.Tests.{decided, clashes, both, left, right, fails-not, fails-if, or-neither, below-suc, any-none, none-any, all-at, all-from, order}
-use Rattle.words.specs.Sets.{unlike, upTo}
+use Rattle.rules.proofs.Tests.{alike, decided, clashes, both, left, right, fails-not, fails-if, or-neither, below-suc, any-none, none-any, all-at, all-from, order}
+use Rattle.words.specs.Sets.{unlike}
 use Rattle.plan.specs.declared.steps.Plan.{Plan}
 use Rattle.plan.specs.Plans.{basesFor, mix, Small}
 use Rattle.plan.proofs.Stepping.{size, start, start-zero, step-base, extra-none}
@@ -274,20 +274,13 @@ module _ (p : Plan) (n : ℕ) (r : ℕ → Bool) (g : Kept p n r) where
   all-right t l = below-right (suc t) t (omega arith) l
 
 -- tests of two readings and two values
-same : (a b : Bool) → xor a b ≡ false → a ≡ b
-unfolding xor
-same true true h = refl
-same true false h = absurd (clashes refl h)
-same false true h = absurd (clashes refl h)
-same false false h = refl
-
 not-other : (a b : Bool) → a ≡ b → xor a b ≡ false
 unfolding xor
 not-other true b e = rw (← e)
 not-other false b e = rw (← e)
 
 follow : (a b x y : Bool) → (xor a b && not (xor x y)) ≡ false → x ≡ y → a ≡ b
-follow a b x y h e = same a b (fails-if (xor a b) (λ t. clashes (both t (ap not (not-other x y e))) h))
+follow a b x y h e = alike a b (fails-if (xor a b) (λ t. clashes (both t (ap not (not-other x y e))) h))
 
 followed : (a b x y : Bool) → a ≡ x → b ≡ y → (xor a b && not (xor x y)) ≡ false
 followed a b x y e h = rw (e, h) (go (xor x y))
@@ -343,7 +336,7 @@ left-reads p capture cells bytes k table n c m code entry l =
           small = k .small;
           first = λ i q. code-right p bytes capture n c i (k .small) m code q;
           follows = λ i j q z h e. stray-not p bytes capture table n c entry i j (any-none (p .wide) (strayIn p bytes capture table c) (clean .0) q) z h e;
-          later = λ u q. same _ _ (any-none (length (stepsOf (basesFor p)) - period p) (otherLater (period p) bytes capture c) (clean .1) {i = u} (omega arith));
+          later = λ u q. alike _ _ (any-none (length (stepsOf (basesFor p)) - period p) (otherLater (period p) bytes capture c) (clean .1) {i = u} (omega arith));
         })
 
 -- a cell that reads its net's own word in every vector is not lost
@@ -355,7 +348,7 @@ reads-left p capture cells bytes k table n c m entry h = neither stays repeats
     neither x y = rw (x, y)
 
     right-at : (t : ℕ) → t < length (stepsOf (basesFor p)) → seenAt capture (t * bytes) c ≡ valueAt p t n
-    right-at t b = same _ _ (fails-not _ (all-at (length (stepsOf (basesFor p))) (λ u. not (offAt p bytes capture n c u)) h b))
+    right-at t b = alike _ _ (fails-not _ (all-at (length (stepsOf (basesFor p))) (λ u. not (offAt p bytes capture n c u)) h b))
 
     stays : any (p .wide) (strayIn p bytes capture table c) ≡ false
     stays = none-any _ _ (λ i q. not-stray p bytes capture table n c entry i (first-below p i (k .small) q) right-at)

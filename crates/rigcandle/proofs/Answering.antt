@@ -1,13 +1,13 @@
 -- An answer by its verdict: a refusal's bits and the buffer as it was, or what the question returns and writes.
-use Prim.Native.Nat.{ℕ, _+_, _*_, _≤_, _<_}
-use mathlib.Core.Path.{_≡_, refl, sym, _∙_, ap}
+use Prim.Native.Nat.{ℕ, _*_}
+use mathlib.Core.Path.{_≡_, sym, _∙_, ap}
 use mathlib.Core.Bool.{Bool, false, not}
-use mathlib.Core.List.{List, [], _∷_, _++_}
+use mathlib.Core.List.{List, [], _∷_}
 use native.Mathlib.Omega.{arith}
 use lib.Dec.{ltb, leb, eqb}
 use lib.ListN.{length}
 use Rattle.rules.specs.Basics.{rowBytes}
-use Rattle.rules.specs.File.{Board, boardOf, cellsOf, netsOf}
+use Rattle.rules.specs.File.{boardOf, cellsOf, netsOf}
 use Rattle.rules.specs.Drivers.{groupsOf}
 use Rattle.rules.specs.Groups.{groupRows}
 use Rattle.rules.specs.Vectors.{widthOf, totalOf, vectorAt, vectorRow}

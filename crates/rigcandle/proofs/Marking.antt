@@ -1,7 +1,7 @@
 -- What the readings of a capture say, in the board's own terms.
-use Prim.Native.Nat.{ℕ, suc, _+_, _*_, _/_, _%_, _^_, _≤_, _<_}
+use Prim.Native.Nat.{ℕ, _+_, _*_, _/_, _%_, _≤_}
 use mathlib.Core.Path.{_≡_, refl, sym, _∙_, ap}
-use mathlib.Core.Bool.{Bool, true, false, cond, not, xor}
+use mathlib.Core.Bool.{Bool, false, not, xor}
 use mathlib.Core.List.{List, [], _∷_}
 use native.Mathlib.Omega.{arith}
 use borrow.Author.Tests.{eqb-true}
@@ -10,7 +10,6 @@ use lib.ListN.{length, getD}
 use Rattle.rules.specs.Answers.{over, pack, field, marksAnswer, marksOutcome}
 use Rattle.rules.specs.Basics.{all, bit, ceil, rowBytes, table}
 use Rattle.rules.specs.File.{Board, boardOf, byteAt, cellsOf, netsOf}
-use Rattle.rules.specs.Drivers.{isInput}
 use Rattle.rules.specs.Marks.{readAt, ownAt, differsAt, byteOf, marksOf, bytesThat, isPass, isFail, isUnsure}
 use Rattle.rules.specs.Refusals.{judge, boardChecks, countChecks, marksChecks, mostCells}
 use Rattle.rules.specs.Vectors.{Bases, codeWidth, widthOf, stepsOf, vectorOf, planOf, totalOf, vectorAt}
@@ -29,6 +28,7 @@ use Rattle.plan.proofs.Planned.{bases-are, small-plan, total-is, whole-file}
 use Rattle.readings.specs.Readings.{seenAt, valueAt, offAt, readBelow, Entries, Captured, Read}
 use Rattle.judge.specs.declared.marks.Counts.{Counts}
 use Rattle.judge.specs.Judging.{markBy, marksBy, Readings, Counted}
+use Rattle.judge.proofs.Marking.{bytes-few}
 use Rattle.judge.proofs.Tables.{marks-by}
 use Rattle.rigcandle.proofs.Answering.{marks-accepted}
 use Rattle.rigcandle.proofs.Bounds.{total-low}
@@ -74,20 +74,11 @@ readings-of file p capture before after cells ok h e z r =
     record { checked = whole-file file ok; long = (let m = z .long in omega (arith, r .long)); nets = λ c l. (let q = r .low c (omega arith) in omega (arith, h .nets-are)) }
 
 -- no count is above the number of nets
-bytes-low : (test : ℕ → Bool) (bytes : List ℕ) → bytesThat test bytes ≤ length bytes
-unfolding bytesThat
-bytes-low test [] = omega arith
-bytes-low test (x ∷ xs) = go (test x) (bytes-low test xs)
-  where
-    go : (a : Bool) → bytesThat test xs ≤ length xs → cond a 1 0 + bytesThat test xs ≤ suc (length xs)
-    go true l = omega arith
-    go false l = omega arith
-
 pub counts-low : (file readings : List ℕ) (counts : Counts) → judge (boardChecks file) ≡ Accepted → Counted (boardOf file) readings counts → (counts .pass ≤ 65535) × (counts .fail ≤ 65535) × (counts .unsure ≤ 65535)
 unfolding marksBy boardOf
 counts-low file readings counts ok k =
     let f = laid file (shaped file (whole-file file ok)) .nets .few in
-    let low : (test : ℕ → Bool) → bytesThat test (marksBy (boardOf file) readings) ≤ 65535 = λ test. (let l = bytes-low test (marksBy (boardOf file) readings) in omega (arith, length-table (netsOf file) (λ n. byteOf (markBy (boardOf file) readings n)))) in
+    let low : (test : ℕ → Bool) → bytesThat test (marksBy (boardOf file) readings) ≤ 65535 = λ test. (let l = bytes-few test (marksBy (boardOf file) readings) in omega (arith, length-table (netsOf file) (λ n. byteOf (markBy (boardOf file) readings n)))) in
     (rw (k .pass) (low isPass), rw (k .fail) (low isFail), rw (k .unsure) (low isUnsure))
 
 -- the answer, by the marks that the readings give

@@ -1,14 +1,13 @@
 -- Laws of the bits of a vector's row: an output's net fits a set, and the bits are those of the definition.
-use Prim.Native.Nat.{ℕ, _*_, _≤_, _<_}
-use mathlib.Core.Path.{_≡_, refl, sym, _∙_, ap, subst}
-use mathlib.Core.Bool.{Bool, true, false, _&&_, _||_}
+use Prim.Native.Nat.{ℕ, _*_, _<_}
+use mathlib.Core.Path.{_≡_, refl, _∙_, ap}
+use mathlib.Core.Bool.{Bool, true, _||_}
 use mathlib.Core.List.{List}
 use native.Mathlib.Omega.{arith}
 use borrow.Author.Tests.{le-ltb}
-use lib.Dec.{ltb}
 use Rattle.rules.specs.Answers.{over}
 use Rattle.rules.specs.Basics.{rowOf}
-use Rattle.rules.specs.File.{Board, boardOf, cellsOf, netsOf, netOf, kindOf}
+use Rattle.rules.specs.File.{Board, boardOf, cellsOf, netOf, kindOf}
 use Rattle.rules.specs.Drivers.{controlled, alwaysOn}
 use Rattle.rules.specs.Groups.{onIn}
 use Rattle.rules.specs.Refusals.{judge, fileChecks}

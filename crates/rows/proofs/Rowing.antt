@@ -1,12 +1,12 @@
 -- The groups' rows, row by row, in a buffer.
 use Prim.Native.Nat.{ℕ, zero, suc, _+_, _*_, _-_, _≤_, _<_}
 use mathlib.Core.Path.{_≡_, refl, sym, _∙_, ap, ap₂}
-use mathlib.Core.Bool.{Bool, true, false}
-use mathlib.Core.List.{List, [], _++_}
+use mathlib.Core.Bool.{Bool}
+use mathlib.Core.List.{List, _++_}
 use native.Mathlib.Nat.{add-sub-cancel, suc-mul, zero-mul, le-trans, mul-le-mul-left, mul-le-mul-right}
 use native.Mathlib.Numerals.{add-one}
 use native.Mathlib.Omega.{arith}
-use lib.ListN.{length, drop, length-append, length-drop}
+use lib.ListN.{length, length-append, length-drop}
 use Rattle.rules.specs.Answers.{over}
 use Rattle.rules.specs.Basics.{ceil, rowBytes, rowOf}
 use Rattle.rules.specs.File.{Board, boardOf, cellsOf}

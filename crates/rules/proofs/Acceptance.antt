@@ -1,22 +1,21 @@
 -- What checks 1 to 9 leave of a file, as facts about its board's nets and cells: each later theorem starts from these and opens no check
 -- again.
-use Prim.Native.Nat.{ℕ, _+_, _<_, _≤_}
-use mathlib.Core.Path.{_≡_, refl, sym, _∙_, ap}
-use mathlib.Core.Logic.{_⊎_, inl, inr, ⊎-elim, _↔_}
-use mathlib.Core.Bool.{Bool, true, false, not, _&&_, _||_, false≢true, true≢false}
-use mathlib.Core.List.{List, [], _∷_, _++_}
+use Prim.Native.Nat.{ℕ, _<_, _≤_}
+use mathlib.Core.Path.{_≡_, sym, _∙_}
+use mathlib.Core.Logic.{_⊎_, ⊎-elim}
+use mathlib.Core.Bool.{true, false, _&&_, _||_}
+use mathlib.Core.List.{List}
 use native.Mathlib.Omega.{arith}
-use borrow.Author.Tests.{eqb-true, eqb-false, eq-eqb, ltb-true, ltb-false, lt-ltb, leb-true}
-use lib.Dec.{eqb, ltb, leb}
-use Rattle.rules.specs.Basics.{any, all, count}
-use Rattle.rules.specs.File.{Board, boardOf, kindOf, controlOf, netOf, kindAt, controlAt, netAt, cellsOf, netsOf, limitOf, ofKind2, brokenAt}
-use Rattle.rules.specs.Drivers.{controlled, controlFor, isControl, alwaysOn, onNet, outputOf, driverOf, drives, drivers, outputs, meets, inside, crosses}
-use Rattle.rules.specs.Refusals.{Check, judge, refuse, numberOf, mostDrivers, mostCells, mostNets, mostLimit, within, outside, undriven, clash, clashing, crowded, crossed, unequal, shapeChecks, fileChecks, netChecks, controlChecks, earlyChecks, boardChecks}
-use Rattle.rules.specs.declared.Verdict.{Verdict}
-use Rattle.rules.specs.declared.Verdict.the-variants.{Accepted, Refused}
-use Rattle.rules.proofs.Tests.{left, right, or-cases, or-neither, fails-not, passes-not, clashes, any-at, any-member, any-none, none-any, all-at, all-from, all-fails, fails-if, passes-if, both, count-same, decided, order, not-fails}
-use Rattle.rules.proofs.Records.{Says, SaysAt, record-says}
-use Rattle.rules.proofs.Verdicts.{Passes, AllPass, First, all-pass, accepted, judge-append, append-pass, judge-passes, given-first, never}
+use borrow.Author.Tests.{eqb-true, eq-eqb, ltb-true, ltb-false, leb-true}
+use lib.Dec.{ltb, leb}
+use Rattle.rules.specs.Basics.{any}
+use Rattle.rules.specs.File.{Board, boardOf, netOf, kindAt, controlAt, cellsOf, netsOf, limitOf, ofKind2, brokenAt}
+use Rattle.rules.specs.Drivers.{controlled, controlFor, isControl, alwaysOn, outputOf, drivers}
+use Rattle.rules.specs.Refusals.{judge, mostDrivers, mostCells, mostNets, mostLimit, within, outside, undriven, clash, clashing, crowded, shapeChecks, fileChecks, netChecks, earlyChecks}
+use Rattle.rules.specs.declared.Verdict.the-variants.{Accepted}
+use Rattle.rules.proofs.Tests.{left, right, or-cases, passes-not, any-none}
+use Rattle.rules.proofs.Records.{SaysAt, record-says}
+use Rattle.rules.proofs.Verdicts.{all-pass}
 
 -- what checks 1 to 9 leave
 pub record Early (b : Board) : Type 0 where

@@ -1,10 +1,10 @@
 -- Counting by a one-to-one map: two tests that it carries onto each other pass equally often. The idea: take one member away on either side.
 use Prim.Native.Nat.{ℕ, zero, suc, _+_, _<_}
 use mathlib.Core.Path.{_≡_, refl, sym, _∙_, ap}
-use mathlib.Core.Logic.{_⊎_, inl, inr, ⊎-elim}
+use mathlib.Core.Logic.{_⊎_, ⊎-elim}
 use mathlib.Core.Bool.{Bool, true, false, not, _&&_}
 use native.Mathlib.Omega.{arith}
-use borrow.Author.Tests.{eq-eqb, ne-eqb, eqb-true}
+use borrow.Author.Tests.{eq-eqb, ne-eqb}
 use lib.Dec.{eqb}
 use Rattle.rules.specs.Basics.{digit, count}
 use Rattle.rules.proofs.Tests.{decided, left, right, both, not-fails, fails-not, clashes, fails-if, below-suc, count-same, count-none}

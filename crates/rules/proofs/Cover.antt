@@ -1,17 +1,17 @@
 -- Why a pass leaves no wanted net without a driver. The idea: an eligible control cell S of an undriven net meets a cell T that is on, at a
 -- net m. Were every eligible cell of n also at m, m would have one more than n, namely T. So some eligible cell of n is not at m; by nesting
 -- it lies inside S and is smaller: go on with it.
-use Prim.Native.Nat.{ℕ, zero, suc, _<_, _≤_}
-use mathlib.Core.Path.{_≡_, refl, sym, _∙_, ap}
+use Prim.Native.Nat.{ℕ, zero, suc, _<_}
+use mathlib.Core.Path.{_≡_}
 use mathlib.Core.Logic.{_⊎_, inl, inr, ⊎-elim}
 use mathlib.Core.Bool.{Bool, true, false, not, _&&_, _||_}
-use mathlib.Core.List.{List, [], _∷_}
+use mathlib.Core.List.{List}
 use native.Mathlib.Omega.{arith}
 use Rattle.rules.specs.Basics.{count, has, all}
 use Rattle.rules.specs.File.{Board}
 use Rattle.rules.specs.Drivers.{isControl, drives, controls, meets}
 use Rattle.rules.specs.Groups.{marked}
-use Rattle.rules.proofs.Tests.{decided, left, right, both, or-cases, or-neither, passes-not, not-fails, fails-not, clashes, fails-if, all-at, all-fails, count-strictly}
+use Rattle.rules.proofs.Tests.{decided, left, right, both, or-cases, or-neither, passes-not, fails-not, clashes, fails-if, all-at, all-fails, count-strictly}
 use Rattle.rules.proofs.Driving.{Affects, Disjoint, Included, meets-net}
 use Rattle.rules.proofs.Requirement.{ControlCell, Requirement}
 use Rattle.rules.proofs.Passes.{marked-by}

@@ -2,11 +2,11 @@
 -- control cell, and no control cell two outputs on the net.
 use Prim.Native.Nat.{ℕ, _<_}
 use mathlib.Core.Path.{_≡_, sym, _∙_}
-use mathlib.Core.Bool.{Bool, true, false}
+use mathlib.Core.Bool.{true}
 use Rattle.rules.specs.File.{Board}
-use Rattle.rules.specs.Drivers.{controlled, controlFor, isControl, alwaysOn, onNet, outputOf, driverOf, drives, drivers, controls, degree}
-use Rattle.rules.proofs.Tests.{left, right, both, fails-if, count-none}
-use Rattle.rules.proofs.Counting.{Onto, count-onto}
+use Rattle.rules.specs.Drivers.{controlFor, isControl, alwaysOn, onNet, outputOf, driverOf, drivers, controls, degree}
+use Rattle.rules.proofs.Tests.{right, both, fails-if, count-none}
+use Rattle.rules.proofs.Counting.{count-onto}
 use Rattle.rules.proofs.Acceptance.{Early}
 use Rattle.rules.proofs.Driving.{kinds-differ, driver-output, drives-driver, driver-drives, always-alone, driver-alone}
 

@@ -1,13 +1,13 @@
 -- Laws of drivers and net sets: a control cell's nets and its drivers there, how two net sets lie, and what a net without clashes has.
 use Prim.Native.Nat.{ℕ, _<_}
-use mathlib.Core.Path.{_≡_, refl, sym, _∙_, ap}
-use mathlib.Core.Logic.{_⊎_, inl, inr, ⊎-elim}
-use mathlib.Core.Bool.{Bool, true, false, not, _&&_, _||_}
+use mathlib.Core.Path.{_≡_, refl, ap}
+use mathlib.Core.Logic.{_⊎_, ⊎-elim}
+use mathlib.Core.Bool.{true, false, not}
 use native.Mathlib.Omega.{arith}
-use borrow.Author.Tests.{eqb-true, eqb-false, eq-eqb, ne-eqb}
+use borrow.Author.Tests.{eqb-true, eq-eqb}
 use lib.Dec.{eqb}
 use Rattle.rules.specs.File.{Board, kindOf, netOf}
-use Rattle.rules.specs.Drivers.{controlled, controlFor, isControl, alwaysOn, onNet, outputOf, driverOf, drives, drivers, outputs, meets, inside}
+use Rattle.rules.specs.Drivers.{controlled, controlFor, alwaysOn, onNet, outputOf, driverOf, drives, drivers, outputs, meets, inside}
 use Rattle.rules.specs.Refusals.{clash}
 use Rattle.rules.proofs.Tests.{left, right, or-left, or-right, or-cases, or-neither, not-fails, fails-not, passes-not, clashes, any-at, any-member, any-none, all-at, all-fails, both, passes-if, same-test, count-same}
 use Rattle.rules.proofs.Acceptance.{Early}
@@ -74,6 +74,10 @@ drives-driver b k n h =
 pub driver-drives : (b : Board) (n c : ℕ) → c < b .size → driverOf b n c ≡ true → Affects b (controlFor b c) n
 unfolding drives
 driver-drives b n c l h = any-at _ _ l (both h (eq-eqb (controlFor b c) (controlFor b c) refl))
+
+pub driver-own : (b : Board) (c : ℕ) → c < b .size → controlled b c ≡ true → Affects b (controlFor b c) (netOf (b .cell c))
+unfolding driverOf onNet
+driver-own b c l x = driver-drives b (netOf (b .cell c)) c l (both (eq-eqb (netOf (b .cell c)) (netOf (b .cell c)) refl) x)
 
 -- two outputs of a net clash where one is always on
 pub always-alone : (b : Board) → Early b → (n c d : ℕ) → n < b .nets → c < b .size → d < b .size → outputOf b n c ≡ true → outputOf b n d ≡ true → alwaysOn b c ≡ true → c ≡ d

@@ -1,5 +1,5 @@
 -- Document 01's figures marked P, as one table with one claim, which antt computes. Board E is a file's bytes.
-use Prim.Native.Nat.{ℕ, zero, suc, _+_, _*_, _-_, _/_, _%_}
+use Prim.Native.Nat.{ℕ, zero, suc, _+_, _-_, _/_, _%_}
 use mathlib.Core.Path.{_≡_, refl}
 use mathlib.Core.Bool.{Bool, true, false, cond, xor, _&&_}
 use mathlib.Core.List.{List, [], _∷_, _++_, map}
@@ -12,7 +12,7 @@ use Rattle.rules.specs.declared.Cell.{Cell}
 use Rattle.rules.specs.declared.Cell.the-variants.{Internal, Control, ThreeState}
 use Rattle.rules.specs.Drivers.{controlled, controlFor, isControl, alwaysOn, isInput, onNet, outputOf, driverOf, drives, drivers, controls, degree, meets, inside, crosses, groupsOf}
 use Rattle.rules.specs.Groups.{marked, turn, pass, firstPass, secondPass, selected, earlier, group, onIn}
-use Rattle.rules.specs.Vectors.{codeWidth, codeBit, widthOf, Bases, patternOf, basesOf, differs, changes, insertedAfter, between, weave, stepsOf, among, vectorOf, planOf, totalOf, vectorAt, cellBit, vectorRow}
+use Rattle.rules.specs.Vectors.{codeWidth, codeBit, widthOf, patternOf, basesOf, differs, changes, insertedAfter, between, weave, stepsOf, among, vectorOf, planOf, totalOf, vectorAt, cellBit, vectorRow}
 use Rattle.rules.specs.Marks.{readAt, ownAt, differsAt, inputOf, unseen, failed, readTwice, rowsOf, firstGiven, markOf, byteOf, marksOf}
 use Rattle.rules.specs.Refusals.{judge, numberOf, placeOf, wrongLength, within, outside, blocksFor, blockWrong, undriven, clash, clashing, crowded, crossed, unequal, shapeChecks, fileChecks, netChecks, controlChecks, earlyChecks, boardChecks}
 

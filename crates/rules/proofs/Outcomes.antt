@@ -1,7 +1,7 @@
 -- Theorem 9, one outcome: for each question, two outcomes that meet its answer on the same input are equal. The idea: the answer is a
 -- function of the input, and what meets it is that function's value, in its 64 bits and in every byte of its buffer. And the bits give the
 -- numbers back: the first field is the lowest bits, and the rest are the bits above it.
-use Prim.Native.Nat.{ℕ, _+_, _*_, _/_, _%_, _^_, _<_}
+use Prim.Native.Nat.{ℕ, _/_, _%_, _^_, _<_}
 use mathlib.Core.Path.{_≡_, sym, _∙_}
 use mathlib.Core.List.{List, _∷_}
 use native.Mathlib.Nat.{add-mul-mod-self-left, add-mul-div-left, mod-eq-of-lt, div-eq-of-lt, zero-add}

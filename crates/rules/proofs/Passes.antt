@@ -1,7 +1,7 @@
 -- Laws of one pass over the cells: whom it turns on, that these share no net, that what was on stays on, and that at its end each control
 -- cell that it could have turned on is marked. The idea: each holds of one position's turn, so of the pass.
 use Prim.Native.Nat.{ℕ, zero, suc, _<_}
-use mathlib.Core.Path.{_≡_, refl, sym, _∙_, ap}
+use mathlib.Core.Path.{_≡_, refl, sym, _∙_}
 use mathlib.Core.Logic.{_⊎_, inl, inr, ⊎-elim}
 use mathlib.Core.Bool.{Bool, true, false, cond, not, _&&_, _||_, false≢true}
 use mathlib.Core.List.{List, [], _∷_, _++_}
@@ -10,9 +10,9 @@ use borrow.Author.Tests.{eqb-true, eq-eqb}
 use lib.Dec.{eqb}
 use Rattle.rules.specs.Basics.{has}
 use Rattle.rules.specs.File.{Board, netOf}
-use Rattle.rules.specs.Drivers.{controlled, controlFor, drives, meets}
+use Rattle.rules.specs.Drivers.{controlled, controlFor, meets}
 use Rattle.rules.specs.Groups.{marked, turn, pass}
-use Rattle.rules.proofs.Tests.{decided, left, right, both, or-left, or-right, or-cases, fails-not, not-fails, clashes, below-suc}
+use Rattle.rules.proofs.Tests.{left, right, or-left, or-right, or-cases, fails-not, clashes, below-suc}
 use Rattle.rules.proofs.Driving.{meets-net, meets-at}
 
 -- membership

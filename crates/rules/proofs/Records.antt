@@ -1,14 +1,14 @@
 -- The table of cell kinds: a record that is not broken means the cell that holds its very bytes, and its columns are as the table has
 -- them. The idea: the table's six rows are six cases of one choice, over plain numbers.
 use Prim.Native.Nat.{ℕ, _<_, _≤_}
-use mathlib.Core.Path.{_≡_, refl, sym, _∙_, ap, subst}
-use mathlib.Core.Logic.{_⊎_, inl, inr, ⊎-elim}
+use mathlib.Core.Path.{_≡_, refl, sym, subst}
+use mathlib.Core.Logic.{_⊎_, ⊎-elim}
 use mathlib.Core.Bool.{Bool, true, false, cond, _&&_, false≢true}
 use mathlib.Core.List.{List}
 use native.Mathlib.Omega.{arith}
-use borrow.Author.Tests.{eqb-true, eqb-false, eq-eqb, ltb-true}
+use borrow.Author.Tests.{eqb-true, eqb-false, ltb-true}
 use lib.Dec.{eqb, ltb}
-use Rattle.rules.specs.File.{byKind, means, none, kindOf, onValueOf, controlOf, netOf, kindAt, onAt, controlAt, netAt, netsOf, cellsOf, ofKind2, tableOf, recordOf, cellOf, isBroken}
+use Rattle.rules.specs.File.{byKind, means, none, kindOf, onValueOf, controlOf, netOf, kindAt, onAt, controlAt, netAt, netsOf, ofKind2, tableOf, recordOf, cellOf, isBroken}
 use Rattle.rules.specs.declared.Cell.{Cell}
 use Rattle.rules.specs.declared.Cell.the-variants.{Internal, Input, Control, ThreeState, TwoState}
 use Rattle.rules.specs.declared.Record.{Record}

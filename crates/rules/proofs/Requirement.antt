@@ -4,20 +4,19 @@
 use Prim.Native.Nat.{ℕ, _<_, _≤_}
 use mathlib.Core.Path.{_≡_, refl, sym, _∙_, ap}
 use mathlib.Core.Logic.{_⊎_, inl, inr, ⊎-elim, _↔_}
-use mathlib.Core.Bool.{Bool, true, false, not, _&&_}
-use mathlib.Core.List.{List, [], _∷_}
+use mathlib.Core.Bool.{true, false, not, _&&_}
+use mathlib.Core.List.{List}
 use native.Mathlib.Nat.{eq-or-lt-of-le}
 use native.Mathlib.Omega.{arith}
 use borrow.Author.Tests.{eqb-true, eq-eqb, lt-ltb}
 use lib.Dec.{eqb, ltb}
-use Rattle.rules.specs.Basics.{any}
 use Rattle.rules.specs.File.{Board, boardOf}
 use Rattle.rules.specs.Drivers.{isControl, drives, drivers, outputs, meets, inside, crosses}
-use Rattle.rules.specs.Refusals.{Check, judge, numberOf, crossed, unequal, controlChecks, earlyChecks, boardChecks}
+use Rattle.rules.specs.Refusals.{judge, numberOf, crossed, unequal, controlChecks, earlyChecks, boardChecks}
 use Rattle.rules.specs.declared.Verdict.{Verdict}
 use Rattle.rules.specs.declared.Verdict.the-variants.{Accepted, Refused}
-use Rattle.rules.proofs.Tests.{decided, order, left, right, both, not-fails, fails-not, clashes, fails-if, passes-if, any-at, any-member, any-none, none-any}
-use Rattle.rules.proofs.Verdicts.{Passes, AllPass, First, here, later, all-pass, accepted, given-first, judge-append}
+use Rattle.rules.proofs.Tests.{decided, order, left, right, both, not-fails, fails-not, clashes, fails-if, passes-if, any-member, any-none, none-any}
+use Rattle.rules.proofs.Verdicts.{AllPass, First, here, later, all-pass, accepted, given-first, judge-append}
 use Rattle.rules.proofs.Acceptance.{Early, early}
 use Rattle.rules.proofs.Driving.{Affects, Disjoint, Included, meets-net, apart, included, not-included, outputs-drivers}
 

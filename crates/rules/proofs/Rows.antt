@@ -1,27 +1,25 @@
 -- Theorem 5, demand 3 on vectors, read off the rows' bits: a control cell is on where its bit is its on value. The idea: that is the case
 -- exactly where the vector's group turns it on, and every vector, inserted ones too, belongs to one of groups 1 to G.
 use Prim.Native.Nat.{ℕ, zero, suc, _+_, _*_, _/_, _%_, _^_, _<_, _≤_}
-use mathlib.Core.Path.{_≡_, refl, sym, _∙_, ap}
-use mathlib.Core.Logic.{_⊎_, inl, inr, ⊎-elim}
+use mathlib.Core.Path.{_≡_, refl, _∙_, ap}
 use mathlib.Core.Bool.{Bool, true, false, cond, not, _&&_, _||_}
 use mathlib.Core.List.{List}
-use native.Mathlib.Nat.{mul-zero, div-lt-iff-lt-mul, mul-div-cancel, mul-lt-mul-of-pos-right, add-sub-of-le}
+use native.Mathlib.Nat.{mul-zero, div-lt-iff-lt-mul, mul-div-cancel, mul-lt-mul-of-pos-right}
 use native.Mathlib.Omega.{arith}
 use borrow.Author.Tests.{eqb-true}
 use lib.Dec.{eqb}
 use lib.ListN.{length, getD}
-use Rattle.rules.specs.Basics.{digit, bit, count, rowOf}
+use Rattle.rules.specs.Basics.{digit, bit, count}
 use Rattle.rules.specs.File.{Board, boardOf, kindOf, onValueOf}
 use Rattle.rules.specs.Drivers.{controlled, controlFor, isControl, alwaysOn, onNet, outputOf, drives, groupsOf}
 use Rattle.rules.specs.Groups.{onIn}
-use Rattle.rules.specs.Vectors.{Bases, Vector, basesOf, codeWidth, widthOf, between, insertedAfter, weave, stepsOf, vectorOf, planOf, totalOf, vectorAt, cellBit, vectorRow}
+use Rattle.rules.specs.Vectors.{Vector, basesOf, widthOf, between, insertedAfter, weave, stepsOf, vectorOf, planOf, totalOf, vectorAt, cellBit, vectorRow}
 use Rattle.rules.specs.Refusals.{judge, boardChecks}
 use Rattle.rules.specs.declared.Cell.{Cell}
 use Rattle.rules.specs.declared.Cell.the-variants.{Internal, Input, Control, ThreeState, TwoState}
-use Rattle.rules.specs.declared.Step.{Step}
 use Rattle.rules.specs.declared.Step.the-variants.{Base, Inserted}
 use Rattle.rules.specs.declared.Verdict.the-variants.{Accepted}
-use Rattle.rules.proofs.Tests.{left, right, or-cases, count-same, decided}
+use Rattle.rules.proofs.Tests.{count-same}
 use Rattle.rules.proofs.Digits.{row-bit, length-table, table-at}
 use Rattle.rules.proofs.Codes.{width-least}
 use Rattle.rules.proofs.Weaving.{weave-each, weave-at-base, weave-fits}

@@ -2,28 +2,27 @@
 -- have had their turn. The idea: before group g each net of degree g or more has degree - (g - 1) control
 -- cells that were on in no earlier group, and each group uses exactly one of them; the second pass serves the other nets.
 use Prim.Native.Nat.{ℕ, zero, suc, _+_, _<_, _≤_}
-use mathlib.Core.Path.{_≡_, refl, sym, _∙_, ap}
+use mathlib.Core.Path.{_≡_, refl, sym, _∙_}
 use mathlib.Core.Logic.{_⊎_, inl, inr, ⊎-elim}
-use mathlib.Core.Bool.{Bool, true, false, not, _&&_, _||_, false≢true, and-true, and-false}
-use mathlib.Core.List.{List, [], _∷_, _++_}
-use native.Mathlib.Nat.{le-max-right, le-max-left}
+use mathlib.Core.Bool.{Bool, true, false, not, _&&_, false≢true, and-true, and-false}
+use mathlib.Core.List.{List, []}
 use native.Mathlib.Omega.{arith}
-use borrow.Author.Tests.{eqb-true, eq-eqb, ne-eqb, leb-true, le-leb, ltb-true, lt-ltb}
-use lib.Dec.{eqb, leb, ltb}
-use Rattle.rules.specs.Basics.{any, count, has, largest}
+use borrow.Author.Tests.{eqb-true, eq-eqb, ne-eqb, le-leb, ltb-true, lt-ltb}
+use lib.Dec.{leb, ltb}
+use Rattle.rules.specs.Basics.{count, has}
 use Rattle.rules.specs.File.{Board, boardOf, netOf}
-use Rattle.rules.specs.Drivers.{controlled, controlFor, isControl, alwaysOn, onNet, outputOf, driverOf, drives, controls, degree, meets, groupsOf}
-use Rattle.rules.specs.Groups.{marked, pass, firstPass, secondPass, selected, earlier, group, onIn}
+use Rattle.rules.specs.Drivers.{controlled, controlFor, isControl, onNet, driverOf, drives, controls, degree}
+use Rattle.rules.specs.Groups.{marked, firstPass, secondPass, selected, earlier, group}
 use Rattle.rules.specs.Refusals.{judge, earlyChecks, controlChecks, boardChecks}
 use Rattle.rules.specs.declared.Verdict.the-variants.{Accepted}
-use Rattle.rules.proofs.Tests.{decided, order, left, right, both, or-left, or-right, or-cases, not-fails, fails-not, passes-not, clashes, fails-if, passes-if, same-test, any-at, any-member, count-same, count-none, count-strictly, count-one, count-member, count-pos, count-split, largest-at}
+use Rattle.rules.proofs.Tests.{order, left, right, both, or-left, or-right, or-cases, not-fails, fails-not, clashes, same-test, count-same, count-none, count-member, count-split}
 use Rattle.rules.proofs.Counting.{without, count-without}
 use Rattle.rules.proofs.Verdicts.{all-pass, append-pass, accepted}
 use Rattle.rules.proofs.Acceptance.{Early, early}
-use Rattle.rules.proofs.Driving.{Affects, meets-at, driver-output, drives-driver, driver-drives, always-alone, driver-alone, outputs-drivers, kinds-differ}
+use Rattle.rules.proofs.Driving.{Affects, meets-at, drives-driver, driver-own, outputs-drivers}
 use Rattle.rules.proofs.Requirement.{ControlCell, Requirement, accepted-exactly}
 use Rattle.rules.proofs.Degree.{degree-drivers}
-use Rattle.rules.proofs.Passes.{has-append, marked-by, Apart, open-at, pass-keeps, pass-members, pass-apart, pass-marks}
+use Rattle.rules.proofs.Passes.{has-append, Apart, open-at, pass-keeps, pass-members, pass-apart, pass-marks}
 use Rattle.rules.proofs.Cover.{available, covers}
 
 -- a sound board: one that checks 1 to 9 leave and that meets the requirement
@@ -79,7 +78,7 @@ module _ (b : Board) (s : Sound b) where
       let is = left (controlled b c) _ cw in
       let own = s .checked .own-control c l is in
       rw (← e)
-      (record { cell = record { on-board = own .0; is-control = own .1 }; net = net; below = s .checked .own-net c l (or-left _ is); affects = driver-drives b net c l (both (eq-eqb net net refl) is); is-wanted = right (controlled b c) cw }, right (controlled b c && wanted net) o)
+      (record { cell = record { on-board = own .0; is-control = own .1 }; net = net; below = s .checked .own-net c l (or-left _ is); affects = driver-own b c l is; is-wanted = right (controlled b c) cw }, right (controlled b c && wanted net) o)
 
   -- and where a wanted net has an allowed control cell, a pass may turn that on
   may-open : (wanted allowed : ℕ → Bool) (k n : ℕ) → Affects b k n → wanted n ≡ true → allowed k ≡ true → (c : ℕ) × (c < b .size) × (open-at b wanted allowed c ≡ true) × (controlFor b c ≡ k)

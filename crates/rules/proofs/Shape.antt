@@ -1,5 +1,5 @@
 -- What checks 1 to 6 say of a file's bytes: its length, its sizes, and that each record lies inside it and means a cell.
-use Prim.Native.Nat.{ℕ, _+_, _*_, _/_, _%_, _<_, _≤_}
+use Prim.Native.Nat.{ℕ, _+_, _*_, _%_, _<_, _≤_}
 use mathlib.Core.Path.{_≡_, _∙_, ap}
 use mathlib.Core.Logic.{⊎-elim}
 use mathlib.Core.Bool.{true, false, not, _&&_, _||_}
@@ -9,7 +9,7 @@ use borrow.Author.Tests.{eqb-true, eqb-false, leb-true, ltb-false}
 use lib.Dec.{eqb, leb}
 use lib.ListN.{length}
 use Rattle.rules.specs.Basics.{ceil}
-use Rattle.rules.specs.File.{blockSize, blockRecords, headSize, recordSize, blocksIn, blockAt, cellsOf, netsOf, limitOf, recordAt, brokenAt}
+use Rattle.rules.specs.File.{blockSize, recordSize, blocksIn, blockAt, cellsOf, netsOf, limitOf, recordAt, brokenAt}
 use Rattle.rules.specs.Refusals.{judge, mostCells, mostNets, mostLimit, mostBlocks, wrongLength, within, outside, blocksFor, blockWrong, shapeChecks, fileChecks}
 use Rattle.rules.specs.declared.Verdict.the-variants.{Accepted}
 use Rattle.rules.proofs.Tests.{left, right, or-neither, passes-not, order}

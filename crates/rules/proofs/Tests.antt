@@ -1,12 +1,12 @@
 -- Laws of tests: conjunction, and some, each, how many and the lowest of the numbers below n.
-use Prim.Native.Nat.{ℕ, zero, suc, _+_, _-_, _*_, _≤_, _<_, max}
-use mathlib.Core.Path.{_≡_, refl, sym, _∙_, ap, ap₂, fun-ext}
+use Prim.Native.Nat.{ℕ, zero, suc, _+_, _-_, _≤_, _<_, max}
+use mathlib.Core.Path.{_≡_, refl, sym, _∙_, ap, ap₂}
 use mathlib.Core.Logic.{_⊎_, inl, inr, ⊎-elim}
 use mathlib.Core.Bool.{Bool, true, false, cond, not, _&&_, _||_, Bool·beq, xor, true≢false, false≢true}
-use native.Mathlib.Nat.{eq-or-lt-of-le, le-of-suc-le-suc, sub-zero, add-zero, add-suc, le-max-left, le-max-right}
+use native.Mathlib.Nat.{eq-or-lt-of-le, le-of-suc-le-suc, sub-zero, le-max-left, le-max-right}
 use native.Mathlib.Omega.{arith}
-use borrow.Author.Tests.{lt-ltb, le-ltb, ltb-true, ltb-false, eqb-true, eq-eqb, ne-eqb}
-use lib.Dec.{ltb, eqb}
+use borrow.Author.Tests.{ltb-true, ltb-false}
+use lib.Dec.{ltb}
 use Rattle.rules.specs.Basics.{digit, any, all, count, largest, seek, least}
 
 -- a test either passes or fails
@@ -47,6 +47,14 @@ not-fails h = rw h
 pub fails-not : (a : Bool) → not a ≡ true → a ≡ false
 fails-not true h = absurd (false≢true h)
 fails-not false h = refl
+
+-- two answers that are not different are the same
+pub alike : (a b : Bool) → xor a b ≡ false → a ≡ b
+unfolding xor
+alike true true h = refl
+alike true false h = absurd (true≢false h)
+alike false true h = absurd (true≢false h)
+alike false false h = refl
 
 pub passes-not : (a : Bool) → not a ≡ false → a ≡ true
 passes-not true h = refl

@@ -1,20 +1,20 @@
 -- Theorem 3, demand 3 on groups, from acceptance alone: in each group exactly one output is on at every net; a control cell has its turn in
 -- exactly one of the first d groups, d the number of controlled drivers at its nets; one that switches nothing is never on.
 use Prim.Native.Nat.{ℕ, zero, suc, _+_, _<_, _≤_}
-use mathlib.Core.Path.{_≡_, refl, sym, _∙_, ap}
+use mathlib.Core.Path.{_≡_, sym, _∙_, ap}
 use mathlib.Core.Logic.{_⊎_, inl, inr, ⊎-elim}
 use mathlib.Core.Bool.{Bool, true, false, _&&_, _||_, false≢true}
-use mathlib.Core.List.{List, [], _∷_, _++_}
+use mathlib.Core.List.{List}
 use native.Mathlib.Nat.{le-max-right}
 use native.Mathlib.Numerals.{add-one}
 use native.Mathlib.Omega.{arith}
 use Rattle.rules.specs.Basics.{count, has, largest}
 use Rattle.rules.specs.File.{Board, boardOf}
-use Rattle.rules.specs.Drivers.{controlled, controlFor, isControl, alwaysOn, onNet, outputOf, driverOf, drives, drivers, controls, degree, meets, groupsOf}
+use Rattle.rules.specs.Drivers.{controlled, controlFor, alwaysOn, onNet, outputOf, driverOf, drives, drivers, controls, degree, meets, groupsOf}
 use Rattle.rules.specs.Groups.{selected, earlier, group, onIn}
 use Rattle.rules.specs.Refusals.{judge, boardChecks}
 use Rattle.rules.specs.declared.Verdict.the-variants.{Accepted}
-use Rattle.rules.proofs.Tests.{decided, order, below-suc, left, right, both, or-left, or-right, or-cases, clashes, fails-if, passes-if, any-member, count-one, count-same, count-strictly, count-pos, largest-at}
+use Rattle.rules.proofs.Tests.{order, below-suc, left, right, both, or-left, or-right, or-cases, clashes, fails-if, passes-if, any-member, count-one, count-same, count-strictly, count-pos, largest-at}
 use Rattle.rules.proofs.Driving.{Affects, meets-at, driver-output, drives-driver, driver-drives, always-alone, driver-alone}
 use Rattle.rules.proofs.Requirement.{ControlCell}
 use Rattle.rules.proofs.Degree.{degree-drivers}

@@ -45,10 +45,6 @@ module _ {ℓ} {A : Type ℓ} (base : ℕ → A) (after : ℕ → List A) where
   pub weave-at-base : (n : ℕ) (d : A) {b : ℕ} → b < n → getD (weave base after n) (length (weave base after b)) d ≡ base b
   weave-at-base n d h = rw add-zero at (weave-at n d h 0 (omega arith))
 
-  -- and goes on with its list
-  pub weave-at-after : (n : ℕ) (d : A) {b : ℕ} → b < n → (k : ℕ) → k < length (after b) → getD (weave base after n) (length (weave base after b) + suc k) d ≡ getD (after b) k d
-  weave-at-after n d h k l = weave-at n d h (suc k) l
-
   -- each place stands in one of the parts
   pub weave-finds : (n t : ℕ) → t < length (weave base after n) → (b : ℕ) × (b < n) × (k : ℕ) × (k ≤ length (after b)) × (t ≡ length (weave base after b) + k)
   unfolding weave

@@ -1,7 +1,6 @@
 -- The four questions: every returned number and the lent buffer afterwards, and the 64 bits in which the numbers reach C. Assumes nothing.
 use Prim.Native.Nat.{ℕ, _+_, _*_, _^_}
 use mathlib.Core.List.{List, [], _∷_, _++_}
-use mathlib.Core.Path.{_≡_}
 use lib.ListN.{length, drop}
 use Rattle.rules.specs.File.{Board, boardOf}
 use Rattle.rules.specs.Drivers.{groupsOf}

@@ -1,8 +1,8 @@
 -- Who drives what: outputs, control cells and their net sets, the drivers of a net. The three definitions that say what a controlled
 -- driver is, which control cell it belongs to and what counts as a control cell are opened by their own laws alone. Assumes nothing.
 use Prim.Native.Nat.{ℕ, max}
-use mathlib.Core.Bool.{Bool, true, false, not, _&&_, _||_}
-use lib.Dec.{ltb, eqb}
+use mathlib.Core.Bool.{Bool, not, _&&_, _||_}
+use lib.Dec.{eqb}
 use Rattle.rules.specs.Basics.{any, all, count, largest}
 use Rattle.rules.specs.File.{Board, kindOf, controlOf, netOf}
 

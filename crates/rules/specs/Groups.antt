@@ -3,9 +3,9 @@ use Prim.Native.Nat.{ℕ, zero, suc, _+_}
 use mathlib.Core.Bool.{Bool, true, false, cond, not, _&&_, _||_}
 use mathlib.Core.List.{List, [], _∷_, _++_}
 use lib.Dec.{ltb, leb, eqb}
-use Rattle.rules.specs.Basics.{has, table, rowOf}
+use Rattle.rules.specs.Basics.{has, rowOf}
 use Rattle.rules.specs.File.{Board, netOf}
-use Rattle.rules.specs.Drivers.{controlled, controlFor, degree, meets, groupsOf}
+use Rattle.rules.specs.Drivers.{controlled, controlFor, degree, meets}
 
 -- "mark every control cell that shares a net with it, itself included": k is marked by the cells that are on
 unfoldable pub marked : Board → List ℕ → ℕ → Bool

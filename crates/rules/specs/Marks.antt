@@ -1,9 +1,9 @@
 -- "Marks": what a capture says of each net, as the table's tests in their order. Assumes nothing.
 use Prim.Native.Nat.{ℕ, _+_, _*_, _/_, _%_}
-use mathlib.Core.Bool.{Bool, true, false, cond, not, xor, _&&_}
+use mathlib.Core.Bool.{Bool, cond, not, xor, _&&_}
 use mathlib.Core.List.{List, [], _∷_}
 use lib.Dec.{eqb}
-use Rattle.rules.specs.Basics.{any, all, bit, count, rowBytes, table}
+use Rattle.rules.specs.Basics.{any, all, bit, rowBytes, table}
 use Rattle.rules.specs.File.{Board, byteAt}
 use Rattle.rules.specs.Drivers.{isInput, onNet}
 use Rattle.rules.specs.Vectors.{totalOf, vectorAt}

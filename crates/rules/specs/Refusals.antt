@@ -1,6 +1,6 @@
 -- "Numbered refusals": the table as a list of checks with their places, and the list that each question uses. Assumes nothing.
 use Prim.Native.Nat.{ℕ, zero, suc, _+_, _*_, _%_}
-use mathlib.Core.Bool.{Bool, true, false, cond, not, _&&_, _||_}
+use mathlib.Core.Bool.{Bool, cond, not, _&&_, _||_}
 use mathlib.Core.List.{List, [], _∷_, _++_}
 use lib.Dec.{ltb, leb, eqb}
 use lib.ListN.{length}
@@ -8,7 +8,6 @@ use Rattle.rules.specs.Basics.{any, ceil, least, rowBytes}
 use Rattle.rules.specs.File.{Board, blockSize, blockRecords, blocksIn, sumsRight, headerRight, cellsOf, netsOf, limitOf, cellBlockRight, brokenAt, boardOf}
 use Rattle.rules.specs.Drivers.{alwaysOn, controlled, controlFor, outputOf, drivers, drives, crosses, isControl, groupsOf}
 use Rattle.rules.specs.Vectors.{totalOf}
-use Rattle.rules.specs.declared.Refusal.{Refusal}
 use Rattle.rules.specs.declared.Verdict.{Verdict}
 use Rattle.rules.specs.declared.Verdict.the-variants.{Accepted, Refused}
 

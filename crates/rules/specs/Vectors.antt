@@ -1,6 +1,6 @@
 -- "Codes and vectors": the code's width and bits, the base vectors, those inserted between them, the plan, and a vector's row. Assumes nothing.
 use Prim.Native.Nat.{ℕ, zero, suc, _+_, _*_, _-_, _/_, _%_, _^_}
-use mathlib.Core.Bool.{Bool, true, false, cond, not, xor, _&&_}
+use mathlib.Core.Bool.{Bool, false, cond, not, xor, _&&_}
 use mathlib.Core.List.{List, [], _∷_, _++_}
 use lib.Dec.{ltb, leb}
 use lib.ListN.{length, getD}

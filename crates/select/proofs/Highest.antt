@@ -19,12 +19,11 @@ use Rattle.rules.specs.declared.Position.{Position}
 use Rattle.rules.proofs.Tests.{left, right, both, or-left, or-right, below-suc}
 use Rattle.rules.proofs.Passes.{open-at}
 use Rattle.rules.proofs.Selection.{Sound, degrees-equal}
-use Rattle.board.specs.Chains.{}
 use Rattle.board.specs.declared.drivers.Driver.the-variants.{Of, Nothing}
 use Rattle.board.specs.Chains.{ControlCell, last, keyed, keysOf}
 use Rattle.board.specs.Driving.{driverIn}
 use Rattle.board.proofs.Chaining.{last-le, last-member, keyed-control}
-use Rattle.board.proofs.Brought.{driver-own}
+use Rattle.rules.proofs.Driving.{driver-own}
 use Rattle.board.proofs.Drives.{is-driver, no-driver, control-below}
 use Rattle.board.proofs.Walks.{cell-in}
 use Rattle.select.specs.declared.turns.Pass.{Pass}

@@ -2,7 +2,7 @@
 use Prim.Native.Nat.{ℕ, _<_, _≤_, _*_}
 use mathlib.Core.Path.{_≡_}
 use mathlib.Core.Logic.{inr, ⊎-elim}
-use mathlib.Core.Bool.{true, false, false≢true}
+use mathlib.Core.Bool.{true, false≢true}
 use mathlib.Core.List.{List, [], _∷_}
 use native.Mathlib.Omega.{arith}
 use borrow.Author.Tests.{eqb-true}
@@ -11,10 +11,9 @@ use Rattle.rules.specs.File.{Board, netOf}
 use Rattle.rules.specs.Drivers.{controlled, controlFor, onNet, driverOf, drives, meets}
 use Rattle.rules.specs.Groups.{marked}
 use Rattle.rules.proofs.Tests.{left, right, both, or-left, or-right, or-cases, any-at, any-member, same-test}
-use Rattle.rules.proofs.Driving.{meets-net, meets-at, drives-driver}
+use Rattle.rules.proofs.Driving.{meets-net, meets-at, drives-driver, driver-own}
 use Rattle.rules.proofs.Passes.{has-here, has-there, has-cases, marked-by, marks}
 use Rattle.words.specs.Sets.{netWords, meetsIn}
-use Rattle.board.proofs.Brought.{driver-own}
 use Rattle.select.specs.Turns.{coveredBy, reached}
 
 -- a covered net is the net of a cell that is on

@@ -23,7 +23,6 @@ use Rattle.rules.proofs.Counting.{Onto, count-onto}
 use Rattle.rules.proofs.Acceptance.{kept-control}
 use Rattle.rules.proofs.Shape.{laid, shaped, whole-records}
 use Rattle.rules.proofs.Selection.{sound}
-use Rattle.board.specs.Chains.{}
 use Rattle.board.specs.Chains.{ControlCell, last, keyed}
 use Rattle.board.specs.Verdict.{Zero}
 use Rattle.select.specs.declared.turns.Pass.{Pass}

@@ -13,14 +13,13 @@ use Rattle.rules.specs.Drivers.{controlled, drives}
 use Rattle.rules.specs.Groups.{marked, turn, pass, firstPass, secondPass, selected, earlier, group, onIn}
 use Rattle.rules.specs.declared.Net.{Net}
 use Rattle.rules.specs.declared.Position.{Position}
-use Rattle.rules.proofs.Acceptance.{kept-net}
-use Rattle.rules.proofs.Shape.{laid, shaped, whole-records}
-use Rattle.rules.proofs.Tests.{or-left}
+use Rattle.rules.proofs.Shape.{laid, shaped}
 use Rattle.rules.proofs.Passes.{has-append}
 use Rattle.words.specs.Sets.{netWords, member, nothing, either, plus, meetsIn}
 use Rattle.board.specs.declared.drivers.Driver.the-variants.{Of, Nothing}
 use Rattle.board.specs.Driving.{driverIn}
 use Rattle.board.proofs.Drives.{is-driver, no-driver, net-below}
+use Rattle.board.proofs.Brought.{known-net}
 use Rattle.select.specs.declared.turns.Pass.{Pass}
 use Rattle.select.specs.declared.turns.Pass.the-variants.{First, Second}
 use Rattle.select.specs.declared.turns.Turned.{Turned}
@@ -96,8 +95,7 @@ module _ (file heads links counts : List ℕ) (ready : Ready file heads links co
 
   -- its nets are below 256, so whether its control cell is marked is told by its nets
   known : (x : ℕ) → x < cellsOf file → controlled (boardOf file) x ≡ true → netOf (boardOf file .cell x) < netsOf file
-  unfolding boardOf
-  known x m q = kept-net file (whole-records file (ready .by-control .checked)) x m (or-left _ q)
+  known = known-net file (ready .by-control .checked)
 
   few : netsOf file ≤ 64 * netWords
   few = let f = laid file (shaped file (ready .by-control .checked)) .nets .few in omega arith

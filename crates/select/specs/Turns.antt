@@ -9,7 +9,6 @@ use Rattle.rules.specs.File.{Board, cellsOf}
 use Rattle.rules.specs.Drivers.{degree, drives}
 use Rattle.rules.specs.Refusals.{judge, boardChecks}
 use Rattle.rules.specs.declared.Verdict.the-variants.{Accepted}
-use Rattle.board.specs.Chains.{}
 use Rattle.words.specs.Sets.{netWords, member, meetsIn}
 use Rattle.board.specs.Chains.{ControlCell, Chains}
 use Rattle.board.specs.Driving.{Counted}

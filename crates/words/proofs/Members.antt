@@ -45,15 +45,15 @@ member-out ws {i} h =
     ap (λ (w : ℕ). bit w (i % 64)) (List·getD-eq-default ws 0 {n = i / 64} (omega arith)) ∙ bit-zero (i % 64)
 
 -- zeros hold nothing
+pub zero-at : (n i : ℕ) → _≡_ {A = ℕ} (getD (replicate n 0) i 0) 0
+zero-at zero i = refl
+zero-at (suc n) zero = refl
+zero-at (suc n) (suc i) = zero-at n i
+
 pub member-zeros : (n : ℕ) → member (replicate n 0) ≡ nothing
 unfolding member
 member-zeros n =
-    fun-ext (λ i. ap (λ (w : ℕ). bit w (i % 64)) (zeros n (i / 64)) ∙ bit-zero (i % 64))
-  where
-    zeros : (n i : ℕ) → _≡_ {A = ℕ} (getD (replicate n 0) i 0) 0
-    zeros zero i = refl
-    zeros (suc n) zero = refl
-    zeros (suc n) (suc i) = zeros n i
+    fun-ext (λ i. ap (λ (w : ℕ). bit w (i % 64)) (zero-at n (i / 64)) ∙ bit-zero (i % 64))
 
 -- after a store, number 64 * j + k is digit k of the word stored, and the numbers of other words are as before
 pub member-set : (ws : List ℕ) (j w k : ℕ) → j < length ws → k < 64 → member (set ws j w) (64 * j + k) ≡ bit w k

@@ -14,15 +14,9 @@ use lib.Pow.{pow-pos, pow-mono, shl-exact, shr-shr}
 use Rattle.rules.specs.Basics.{digit, count, bit, word}
 use Rattle.rules.specs.Vectors.{among}
 use Rattle.rules.proofs.Tests.{Lowest, fails-if, right, order, count-same}
-use Rattle.rules.proofs.Digits.{bit-lt, bit-word, bit-word-out, word-same, word-none, word-lt, word-bits, bits-equal}
+use Rattle.rules.proofs.Digits.{digit-of, bit-lt, bit-word, bit-word-out, word-same, word-none, word-lt, word-bits, bits-equal}
 use Rattle.rules.proofs.Limit.{among-all}
 use Rattle.words.proofs.Bounds.{count-grows}
-
--- a digit is 1 or 0
-digit-of : (x : ℕ) → x < 2 → digit (eqb x 1) ≡ x
-digit-of zero h = refl
-digit-of (suc zero) h = refl
-digit-of (suc (suc x)) h = absurd (omega arith)
 
 -- digit k of two words combined is their digits k combined, by the operation's table for two digits
 module _

@@ -1,8 +1,5 @@
 -- The program's own tables are blank, and the file is as long as what was read.
-use mathlib.Core.Path.{_≡_, refl, sym}
-use native.Mathlib.Omega.{arith}
 use borrow.Author.Needs.{needs}
-use lib.Seq.{length-take-le}
 use Rattle.rules.specs.Refusals.{mostCells, mostNets}
 use Rattle.board.proofs.Blanks.{blank}
 use Rattle.listing.proofs.main.Statement.{statement}

@@ -1,7 +1,5 @@
 -- Every t below the total is a step's number.
 use Prim.Native.Nat.{_-_}
-use mathlib.Core.Path.{_≡_}
-use native.Mathlib.Omega.{arith}
 use borrow.Author.Needs.{needs}
 use Rattle.plans.proofs.say_vectors.Statement.{statement}
 use Rattle.plans.proofs.say_vectors.Tie as tie

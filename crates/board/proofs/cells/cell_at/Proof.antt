@@ -1,26 +1,20 @@
 -- The kind picks which columns are read; a record that is not broken means just those (plain-cell). Each byte lies inside the record.
-use Prim.Native.Nat.{ℕ, _+_, _<_, _≤_}
+use Prim.Native.Nat.{ℕ, _+_}
 use mathlib.Core.Path.{_≡_, refl, sym, _∙_, ap, ap₂}
 use mathlib.Core.Bool.{Bool, true, false, cond}
 use mathlib.Core.List.{List}
-use borrow.Author.Needs.{needs}
 use borrow.Author.Tests.{ne-eqb}
 use native.Mathlib.Omega.{arith}
 use lib.Dec.{eqb}
-use lib.ListN.{length, getD}
-use Rattle.rules.specs.File.{recordAt, boardOf, cellsOf, numberAt, byteAt, kindAt, onAt, controlAt, netAt, brokenAt}
+use lib.ListN.{getD}
+use Rattle.rules.specs.File.{recordAt, boardOf, numberAt, byteAt, kindAt, onAt, controlAt, netAt, brokenAt}
 use Rattle.rules.proofs.Records.{plainCell, plain-cell}
-use Rattle.rules.proofs.Shape.{laid, shaped, whole-records, record-inside}
-use Rattle.rules.specs.declared.Cell.{Cell}
+use Rattle.rules.proofs.Shape.{laid, shaped, whole-records}
 use Rattle.rules.specs.declared.Cell.the-variants.{Internal, Input, ThreeState, TwoState}
 use Rattle.board.specs.Whole.{Whole}
+use Rattle.board.proofs.Reading.{in-record}
 use Rattle.board.proofs.cells.cell_at.Statement.{statement}
 use Rattle.board.proofs.cells.cell_at.Tie as tie
-
-inside : (file : List ℕ) (p at : ℕ) → Whole file p → at ≡ recordAt p → at + 6 ≤ length file
-inside file p at w e =
-    let r = record-inside file (laid file (shaped file (w .checked))) p (w .below) in
-    omega arith
 
 as-read : (file : List ℕ) (p at kind : ℕ) → Whole file p → at ≡ recordAt p → getD file at 0 ≡ kind → plainCell kind (getD file (at + 1) 0) (numberAt file (at + 2)) (numberAt file (at + 4)) ≡ boardOf file .cell p
 unfolding boardOf brokenAt kindAt onAt controlAt netAt byteAt
@@ -43,18 +37,18 @@ record-start-requires c κs =
     omega arith
 
 in0 : tie.Need-shared-slice-read-kind
-in0 c = let h = inside _ _ _ (c .before .before .before .pre) (c .before .record-start .ensures) in omega arith
+in0 c = let h = in-record _ _ _ (c .before .before .before .pre) (c .before .record-start .ensures) in omega arith
 
 add-pair : tie.Need-add-pair
-add-pair c = let h = inside _ _ _ (c .before .before .before .before .pre) (c .before .before .record-start .ensures) in omega arith
+add-pair c = let h = in-record _ _ _ (c .before .before .before .before .pre) (c .before .before .record-start .ensures) in omega arith
 
 pair-requires : tie.Need-pair-requires
 pair-requires c κs =
-    let h = inside _ _ _ (c .before .before .before .before .pre) (c .before .before .record-start .ensures) in
+    let h = in-record _ _ _ (c .before .before .before .before .pre) (c .before .before .record-start .ensures) in
     omega arith
 
 shared-slice-read-t13 : tie.Need-shared-slice-read-t13
-shared-slice-read-t13 c = let h = inside _ _ _ (c .before .before .before .before .before .pre) (c .before .before .before .record-start .ensures) in omega arith
+shared-slice-read-t13 c = let h = in-record _ _ _ (c .before .before .before .before .before .pre) (c .before .before .before .record-start .ensures) in omega arith
 
 returns : tie.Need-returns
 returns c =
@@ -85,14 +79,14 @@ cell-at-spec =
     in0
     add-pair
     pair-requires
-    (λ c. let h = inside _ _ _ (c .before .before .before .before .pre) (c .before .before .record-start .ensures) in omega arith)
+    (λ c. let h = in-record _ _ _ (c .before .before .before .before .pre) (c .before .before .record-start .ensures) in omega arith)
     shared-slice-read-t13
-    (λ c. let h = inside _ _ _ (c .before .before .before .before .pre) (c .before .before .record-start .ensures) in omega arith)
-    (λ c κs. let h = inside _ _ _ (c .before .before .before .before .pre) (c .before .before .record-start .ensures) in omega arith)
-    (λ c. let h = inside _ _ _ (c .before .before .before .before .before .pre) (c .before .before .before .record-start .ensures) in omega arith)
-    (λ c κs. let h = inside _ _ _ (c .before .before .before .before .before .pre) (c .before .before .before .record-start .ensures) in omega arith)
-    (λ c. let h = inside _ _ _ (c .before .before .before .before .pre) (c .before .before .record-start .ensures) in omega arith)
-    (λ c κs. let h = inside _ _ _ (c .before .before .before .before .pre) (c .before .before .record-start .ensures) in omega arith)
+    (λ c. let h = in-record _ _ _ (c .before .before .before .before .pre) (c .before .before .record-start .ensures) in omega arith)
+    (λ c κs. let h = in-record _ _ _ (c .before .before .before .before .pre) (c .before .before .record-start .ensures) in omega arith)
+    (λ c. let h = in-record _ _ _ (c .before .before .before .before .before .pre) (c .before .before .before .record-start .ensures) in omega arith)
+    (λ c κs. let h = in-record _ _ _ (c .before .before .before .before .before .pre) (c .before .before .before .record-start .ensures) in omega arith)
+    (λ c. let h = in-record _ _ _ (c .before .before .before .before .pre) (c .before .before .record-start .ensures) in omega arith)
+    (λ c κs. let h = in-record _ _ _ (c .before .before .before .before .pre) (c .before .before .record-start .ensures) in omega arith)
     returns
     returns-2
     returns-3

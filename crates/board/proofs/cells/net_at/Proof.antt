@@ -1,15 +1,14 @@
 -- A record that is not broken means the cell that has its very net.
-use Prim.Native.Nat.{ℕ, _+_, _<_, _≤_}
-use mathlib.Core.Path.{_≡_, sym, _∙_, ap}
+use Prim.Native.Nat.{ℕ, _+_}
+use mathlib.Core.Path.{_≡_, sym, _∙_}
 use mathlib.Core.List.{List}
 use native.Mathlib.Omega.{arith}
 use borrow.Author.Needs.{needs}
-use lib.ListN.{length}
 use Rattle.rules.specs.File.{recordAt, boardOf, numberAt, netAt, brokenAt, netOf}
 use Rattle.rules.proofs.Records.{record-says}
-use Rattle.rules.proofs.Shape.{laid, shaped, whole-records}
+use Rattle.rules.proofs.Shape.{whole-records}
 use Rattle.board.specs.Whole.{Whole}
-use Rattle.board.proofs.Reading.{inside, few, whole-shaped}
+use Rattle.board.proofs.Reading.{few, whole-shaped, in-record}
 use Rattle.board.proofs.cells.net_at.Statement.{statement}
 use Rattle.board.proofs.cells.net_at.Tie as tie
 
@@ -17,9 +16,6 @@ as-read : (file : List ℕ) (p at : ℕ) → Whole file p → at ≡ recordAt p 
 unfolding boardOf brokenAt netAt
 as-read file p at w e =
     rw e (sym (record-says file p (whole-records file (w .checked) p (w .below)) .net-is))
-
-in-record : (file : List ℕ) (p at : ℕ) → Whole file p → at ≡ recordAt p → at + 6 ≤ length file
-in-record file p at w e = let h = inside file p at (whole-shaped file p w) (w .below) e in omega arith
 
 pub net-at-spec : {M : Type 1} → statement M
 net-at-spec =

@@ -1,7 +1,4 @@
 -- A block is 8 bytes longer than its 84 records, so the two ways to count agree.
-use Prim.Native.Nat.{ℕ, _+_, _*_, _/_, _<_}
-use mathlib.Core.Path.{_≡_}
-use borrow.Author.Needs.{needs}
 use native.Mathlib.Omega.{arith}
 use Rattle.rules.specs.File.{recordAt, blockAt}
 use Rattle.board.proofs.cells.record_start.Statement.{statement}

@@ -1,6 +1,6 @@
 -- Each arm is the definition's row; a number past the last row is broken.
 use Prim.Native.Nat.{ℕ}
-use mathlib.Core.Path.{_≡_, refl}
+use mathlib.Core.Path.{_≡_}
 use mathlib.Core.Bool.{Bool}
 use borrow.Author.Needs.{needs}
 use borrow.Author.Tests.{ne-eqb}

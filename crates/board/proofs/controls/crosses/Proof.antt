@@ -1,9 +1,9 @@
 -- A search over the partners of i above it: the net sets are compared pair by pair.
-use Prim.Native.Nat.{ℕ, _-_, _<_, _≤_}
+use Prim.Native.Nat.{_-_, _<_}
 use mathlib.Core.Path.{_≡_, sym, _∙_}
 use native.Mathlib.Omega.{arith}
 use borrow.Author.Needs.{needs}
-use Rattle.rules.specs.File.{boardOf, cellsOf}
+use Rattle.rules.specs.File.{boardOf}
 use Rattle.rules.proofs.Shape.{laid, shaped}
 use Rattle.words.specs.Sets.{member}
 use Rattle.board.specs.Sharing.{partnersOf}

@@ -1,9 +1,8 @@
 -- A walk along k's chain, for a driver whose net has another count than the first's.
 use Prim.Native.Nat.{ℕ, _-_, _<_, _≤_}
-use mathlib.Core.Path.{_≡_, refl, sym, _∙_, ap}
-use mathlib.Core.Bool.{Bool, true, false, not, _&&_}
+use mathlib.Core.Path.{_≡_, sym, _∙_}
+use mathlib.Core.Bool.{true, false, not, _&&_}
 use mathlib.Core.List.{List}
-use borrow.Author.Needs.{needs}
 use borrow.Author.Tests.{eq-eqb, ne-eqb}
 use native.Mathlib.Omega.{arith}
 use lib.Dec.{eqb}
@@ -14,7 +13,7 @@ use Rattle.board.specs.Chains.{ControlCell, keyed, Chains}
 use Rattle.board.specs.Controls.{driversAt}
 use Rattle.board.proofs.Chaining.{Walking}
 use Rattle.board.proofs.Walks.{cell-in, head-low, link-low, from-head, step, on-chain, hit, missed, none-keyed}
-use Rattle.board.proofs.ControlChecks.{known, other, other-keyed, unequal-by, unequal-empty}
+use Rattle.board.proofs.ControlChecks.{unequal-by, unequal-empty}
 use Rattle.board.proofs.Brought.{keyed-controlled}
 use Rattle.board.proofs.controls.differ.Statement.{statement}
 use Rattle.board.proofs.controls.differ.Tie as tie

@@ -1,8 +1,8 @@
 -- Each answer is a case of the definition.
 use mathlib.Core.Path.{_≡_, refl}
-use mathlib.Core.Bool.{true, false}
+use mathlib.Core.Bool.{true}
 use borrow.Author.Needs.{needs}
-use Rattle.board.specs.Driving.{driverIn, conflictOf}
+use Rattle.board.specs.Driving.{conflictOf}
 use Rattle.board.specs.declared.drivers.Driver.{Driver}
 use Rattle.board.specs.declared.drivers.Driver.the-variants.{Of, Nothing}
 use Rattle.board.proofs.drivers.conflict.Statement.{statement}

@@ -1,15 +1,14 @@
 -- A walk below c along its net's chain, for an output that may not stand beside the one at c.
-use Prim.Native.Nat.{ℕ, _-_, _<_, _≤_}
-use mathlib.Core.Path.{_≡_, refl, sym, _∙_}
-use mathlib.Core.Bool.{Bool, true, false, _&&_}
+use Prim.Native.Nat.{ℕ, _-_, _≤_}
+use mathlib.Core.Path.{_≡_, sym, _∙_}
+use mathlib.Core.Bool.{Bool, true}
 use borrow.Author.Needs.{needs}
 use native.Mathlib.Omega.{arith}
-use lib.ListN.{length, getD}
-use Rattle.rules.specs.File.{Board, boardOf, cellsOf}
+use Rattle.rules.specs.File.{Board, boardOf}
 use Rattle.rules.specs.Drivers.{outputOf}
 use Rattle.rules.specs.declared.Cell.{Cell}
-use Rattle.rules.proofs.Tests.{left, both}
-use Rattle.board.specs.Chains.{NetOf, keyed, Chains}
+use Rattle.rules.proofs.Tests.{left}
+use Rattle.board.specs.Chains.{NetOf, keyed}
 use Rattle.board.specs.Driving.{driverIn, conflictOf, conflictAt}
 use Rattle.board.proofs.Chaining.{Walking, keyed-net}
 use Rattle.board.proofs.Walks.{link-low, from-link, step, on-chain, hit, missed}

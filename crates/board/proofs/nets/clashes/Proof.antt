@@ -1,13 +1,11 @@
 -- A walk along the net's chain, for an output that is at odds with a lower one.
-use Prim.Native.Nat.{ℕ, _-_, _<_, _≤_}
-use mathlib.Core.Path.{_≡_, refl, sym, _∙_}
-use mathlib.Core.Bool.{Bool, true, false, _&&_}
+use Prim.Native.Nat.{ℕ, _-_, _≤_}
+use mathlib.Core.Path.{_≡_, sym, _∙_}
+use mathlib.Core.Bool.{Bool, true}
 use mathlib.Core.List.{List}
-use borrow.Author.Needs.{needs}
 use native.Mathlib.Omega.{arith}
-use lib.ListN.{length, getD}
 use Rattle.rules.specs.Basics.{any}
-use Rattle.rules.specs.File.{Board, boardOf, cellsOf, netsOf}
+use Rattle.rules.specs.File.{Board, boardOf, cellsOf}
 use Rattle.rules.specs.Drivers.{outputOf}
 use Rattle.rules.specs.Refusals.{clashing}
 use Rattle.rules.proofs.Tests.{left}

@@ -1,6 +1,6 @@
 -- A walk along n's chain that gathers the control cells of its drivers.
-use Prim.Native.Nat.{ℕ, _-_, _<_, _≤_}
-use mathlib.Core.Path.{_≡_, _∙_, ap}
+use Prim.Native.Nat.{ℕ, _-_, _≤_}
+use mathlib.Core.Path.{_∙_, ap}
 use mathlib.Core.Bool.{Bool}
 use native.Mathlib.Omega.{arith}
 use Rattle.rules.specs.File.{boardOf, cellsOf}

@@ -1,12 +1,10 @@
 -- A walk along k's chain that gathers the nets of its drivers.
-use Prim.Native.Nat.{ℕ, _-_, _<_, _≤_}
-use mathlib.Core.Path.{_≡_, refl, sym, _∙_, ap}
-use mathlib.Core.Bool.{Bool, true}
-use mathlib.Core.List.{List}
+use Prim.Native.Nat.{_-_, _≤_}
+use mathlib.Core.Path.{_≡_, refl, sym}
 use borrow.Author.Needs.{needs}
 use native.Mathlib.Omega.{arith}
 use lib.ListN.{length}
-use Rattle.rules.specs.File.{Board, boardOf, cellsOf}
+use Rattle.rules.specs.File.{boardOf, cellsOf}
 use Rattle.words.specs.Sets.{netWords, member, nothing}
 use Rattle.words.proofs.Members.{member-zeros}
 use Rattle.board.specs.Chains.{ControlCell, keyed}

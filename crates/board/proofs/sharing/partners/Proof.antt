@@ -1,11 +1,10 @@
 -- A walk along k's chain that gathers the control cells of its drivers' nets.
-use Prim.Native.Nat.{ℕ, _-_, _<_, _≤_}
-use mathlib.Core.Path.{_≡_, _∙_, ap}
-use mathlib.Core.Bool.{Bool, true}
-use mathlib.Core.List.{List}
+use Prim.Native.Nat.{ℕ, _-_, _≤_}
+use mathlib.Core.Path.{_∙_, ap}
+use mathlib.Core.Bool.{Bool}
 use borrow.Author.Needs.{needs}
 use native.Mathlib.Omega.{arith}
-use Rattle.rules.specs.File.{Board, boardOf, cellsOf}
+use Rattle.rules.specs.File.{boardOf, cellsOf}
 use Rattle.words.specs.Sets.{member, nothing}
 use Rattle.board.specs.Chains.{ControlCell, keyed}
 use Rattle.board.proofs.Walks.{cell-in, head-low, link-low}

@@ -4,19 +4,15 @@ use mathlib.Core.Path.{_≡_}
 use native.Mathlib.Omega.{arith}
 use Rattle.rules.specs.declared.Cell.{Cell}
 use Rattle.board.specs.Chains.{NetOf, keyOf}
-use Rattle.board.specs.Driving.{driverIn}
 use Rattle.board.specs.declared.chains.Key.{Key}
-use Rattle.board.specs.declared.drivers.Driver.{Driver}
+use Rattle.board.proofs.Sets.{driver-is}
 use Rattle.board.proofs.Entering.{linkable, linkable-control, counts-fit, enter-none, enter-output, enter-driver}
 use Rattle.board.proofs.verdict.enter.Statement.{statement}
 use Rattle.board.proofs.verdict.enter.Tie as tie
 
--- the net found is the cell's, and so is the driver
+-- the net found is the cell's
 key-is : (cell cell′ : Cell) (found key : Key) → cell ≡ cell′ → found ≡ keyOf NetOf cell → found ≡ key → keyOf NetOf cell′ ≡ key
 key-is cell cell′ found key e f k = cc
-
-driver-is : (cell cell′ : Cell) (found driver : Driver) → cell ≡ cell′ → found ≡ driverIn cell → found ≡ driver → driverIn cell′ ≡ driver
-driver-is cell cell′ found driver e f d = cc
 
 cell-at-requires : tie.Need-cell-at-requires
 cell-at-requires c κs = let p = c .before .before .before .before .before .before .pre in record { checked = p .0 .by-net .checked; below = p .1 }

@@ -1,7 +1,6 @@
 -- The file's checks in a row: a refusal stops it, an acceptance goes on.
 use mathlib.Core.Path.{sym, _∙_}
 use borrow.Author.Needs.{needs}
-use native.Mathlib.Omega.{arith}
 use Rattle.rules.proofs.Searching.{once-accepted}
 use Rattle.rules.proofs.Verdicts.{stopped, passed}
 use Rattle.blocks.proofs.Lengths.{right-length}

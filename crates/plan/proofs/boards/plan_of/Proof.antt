@@ -1,7 +1,5 @@
 -- The header's N and SSOL, G by the counts, p by N.
-use mathlib.Core.Path.{_≡_, sym, _∙_, ap}
 use native.Mathlib.Omega.{arith}
-use Rattle.rules.specs.Vectors.{codeWidth}
 use Rattle.rules.proofs.Shape.{laid, shaped, one-block}
 use Rattle.plan.proofs.Planned.{plan-from}
 use Rattle.plan.proofs.boards.plan_of.Statement.{statement}

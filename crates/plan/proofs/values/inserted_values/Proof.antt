@@ -1,9 +1,6 @@
 -- The two base vectors' values, mixed.
-use mathlib.Core.Path.{_∙_, ap₂}
 use native.Mathlib.Omega.{arith}
 use borrow.Author.Needs.{needs}
-use Rattle.rules.specs.Vectors.{differs, vectorOf}
-use Rattle.plan.specs.Plans.{basesFor, mix}
 use Rattle.plan.proofs.Stepping.{size-low}
 use Rattle.plan.proofs.Mixing.{changed-low, mix-inserted}
 use Rattle.plan.proofs.values.inserted_values.Statement.{statement}

@@ -1,7 +1,5 @@
 -- By the bit.
-use mathlib.Core.Path.{sym}
 use native.Mathlib.Omega.{arith}
-use borrow.Author.Needs.{needs}
 use Rattle.readings.proofs.codes.add_digit.Statement.{statement}
 use Rattle.readings.proofs.codes.add_digit.Tie as tie
 

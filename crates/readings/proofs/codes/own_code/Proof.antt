@@ -1,5 +1,4 @@
 -- The test decides.
-use mathlib.Core.Path.{sym}
 use borrow.Author.Tests.{lt-ltb, le-ltb}
 use Rattle.readings.proofs.codes.own_code.Statement.{statement}
 use Rattle.readings.proofs.codes.own_code.Tie as tie

@@ -1,13 +1,12 @@
 -- Entry by entry.
-use Prim.Native.Nat.{ℕ, _+_, _*_, _-_, _≤_}
-use mathlib.Core.Path.{_≡_, refl, _∙_, ap}
-use mathlib.Core.Bool.{Bool}
+use Prim.Native.Nat.{_-_, _≤_}
+use mathlib.Core.Path.{refl}
 use native.Mathlib.Omega.{arith}
 use borrow.Author.Needs.{needs}
 use mathlib.Core.Bool.{cond}
 use lib.Dec.{ltb}
 use Rattle.readings.specs.Readings.{Mapped}
-use Rattle.readings.proofs.Mapping.{mapped-none, mapped-more, mapped-all, entry-in, entry-low, byte-inside}
+use Rattle.readings.proofs.Mapping.{mapped-none, mapped-more, mapped-all}
 use Rattle.readings.proofs.codes.own_codes.Statement.{statement}
 use Rattle.readings.proofs.codes.own_codes.Tie as tie
 

@@ -1,8 +1,7 @@
 -- Bit by bit, from pattern 1 on.
-use Prim.Native.Nat.{ℕ, _+_, _*_, _-_, _≤_}
-use mathlib.Core.Path.{_≡_, sym, _∙_, ap}
+use Prim.Native.Nat.{_-_, _≤_}
+use mathlib.Core.Path.{_≡_}
 use native.Mathlib.Omega.{arith}
-use borrow.Author.Needs.{needs}
 use Rattle.plan.proofs.Stepping.{extra-low}
 use Rattle.readings.specs.Readings.{startOf, codeFrom, Mapped}
 use Rattle.readings.proofs.Mapping.{mapped-id, mapped-same, mapped-low}

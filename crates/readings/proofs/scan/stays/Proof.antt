@@ -1,5 +1,5 @@
 -- The three cases of the two digits.
-use mathlib.Core.Path.{_≡_, refl, sym, _∙_}
+use mathlib.Core.Path.{sym, _∙_}
 use borrow.Author.Needs.{needs}
 use Rattle.readings.proofs.Sifting.{alike, differs}
 use Rattle.readings.proofs.scan.stays.Statement.{statement}

@@ -1,6 +1,5 @@
 -- By the net that the entry names.
 use native.Mathlib.Omega.{arith}
-use borrow.Author.Needs.{needs}
 use Rattle.readings.proofs.Sifting.{stray-none, stray-some}
 use Rattle.readings.proofs.scan.stray.Statement.{statement}
 use Rattle.readings.proofs.scan.stray.Tie as tie

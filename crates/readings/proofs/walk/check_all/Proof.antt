@@ -1,8 +1,7 @@
 -- The first group, and then the later ones.
-use mathlib.Core.Path.{_≡_, refl, sym, _∙_, ap}
+use mathlib.Core.Path.{sym, _∙_, ap}
 use Prim.Native.Nat.{ℕ, _*_}
 use native.Mathlib.Omega.{arith}
-use borrow.Author.Needs.{needs}
 use Rattle.readings.proofs.Sifting.{still-lent}
 use Rattle.readings.proofs.Following.{left-lost, period-low}
 use Rattle.readings.proofs.walk.check_all.Statement.{statement}

@@ -1,11 +1,10 @@
 -- Part by part.
-use Prim.Native.Nat.{ℕ, _+_, _*_, _-_, _≤_}
-use mathlib.Core.Path.{_≡_, refl, sym, _∙_, ap}
+use Prim.Native.Nat.{_*_, _-_, _≤_}
+use mathlib.Core.Path.{_≡_}
 use native.Mathlib.Omega.{arith}
-use borrow.Author.Needs.{needs}
 use Rattle.rules.specs.Basics.{any}
-use Rattle.plan.proofs.Stepping.{size-low, extra-low}
-use Rattle.readings.specs.Readings.{startOf, period, strayIn, Left}
+use Rattle.plan.proofs.Stepping.{extra-low}
+use Rattle.readings.specs.Readings.{startOf, strayIn, Left}
 use Rattle.readings.proofs.Places.{starts-none, starts-next, part-below}
 use Rattle.readings.proofs.Decoding.{first-below}
 use Rattle.readings.proofs.Sifting.{still-lent}

@@ -1,6 +1,6 @@
 -- The k-th inserted vector has the k x SSOL lowest of the differing nets changed, and the next base vector all of them.
-use Prim.Native.Nat.{ℕ, _+_, _*_, _-_, _≤_}
-use mathlib.Core.Path.{_≡_, refl, sym, _∙_, ap}
+use Prim.Native.Nat.{_+_, _*_, _-_, _≤_}
+use mathlib.Core.Path.{_≡_, refl, _∙_}
 use native.Mathlib.Omega.{arith}
 use borrow.Author.Needs.{needs}
 use Rattle.rules.specs.Basics.{any}
@@ -8,7 +8,7 @@ use Rattle.words.specs.Sets.{member}
 use Rattle.plan.specs.Plans.{basesFor}
 use Rattle.plan.proofs.Mixing.{changed-low}
 use Rattle.plan.proofs.Stepping.{size-low, extra-low}
-use Rattle.readings.specs.Readings.{valueAt, strayAfter, Left, Lent}
+use Rattle.readings.specs.Readings.{valueAt, strayAfter, Left}
 use Rattle.readings.proofs.Sifting.{still-lent}
 use Rattle.readings.proofs.Following.{left-start, left-next, left-last, next-row, values-first, values-next, values-last, values-on}
 use Rattle.readings.proofs.walk.check_inserted.Statement.{statement}

@@ -1,9 +1,8 @@
 -- The codes, those of nets, and the cells that are left.
 use Prim.Native.Nat.{ℕ, _*_, _≤_}
-use mathlib.Core.Path.{_≡_, refl, sym, _∙_, ap}
 use native.Mathlib.Omega.{arith}
 use borrow.Author.Needs.{needs}
-use lib.ListN.{length, replicate, length-replicate}
+use lib.ListN.{length-replicate}
 use Rattle.rules.specs.Basics.{ceil, rowBytes}
 use Rattle.readings.proofs.Places.{rowed}
 use Rattle.readings.proofs.Mapping.{entries-below}

@@ -1,6 +1,5 @@
 -- The fields stand one after the other.
 use native.Mathlib.Omega.{arith}
-use borrow.Author.Needs.{needs}
 use Rattle.rules.specs.Answers.{pack}
 use Rattle.rigcandle.proofs.packing.refusal_bits.Statement.{statement}
 use Rattle.rigcandle.proofs.packing.refusal_bits.Tie as tie

@@ -1,5 +1,5 @@
 -- By the case of the verdict.
-use mathlib.Core.Path.{sym, _∙_, ap}
+use mathlib.Core.Path.{_∙_}
 use borrow.Author.Needs.{needs}
 use Rattle.rules.specs.Answers.{pack, packed}
 use Rattle.rules.specs.Refusals.{numberOf, placeOf, secondOf}

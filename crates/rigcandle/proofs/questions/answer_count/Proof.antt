@@ -1,6 +1,5 @@
 -- The plan has all three numbers.
-use native.Mathlib.Omega.{arith}
-use mathlib.Core.Path.{sym, _∙_}
+use mathlib.Core.Path.{_∙_}
 use Rattle.plan.proofs.Planned.{small-plan, total-is}
 use Rattle.rigcandle.proofs.Answering.{count-accepted}
 use Rattle.rigcandle.proofs.Bounds.{vectors-low, groups-few, wide-few}

@@ -1,18 +1,15 @@
 -- The capture, the room, the readings, then the marks.
-use Prim.Native.Nat.{ℕ, _+_, _*_, _≤_}
-use mathlib.Core.Path.{_≡_, refl, sym, _∙_, ap, ap₂}
+use Prim.Native.Nat.{_*_, _≤_}
+use mathlib.Core.Path.{refl, sym, _∙_, ap, ap₂}
 use native.Mathlib.Omega.{arith}
 use borrow.Author.Needs.{needs}
 use borrow.Author.Tests.{ltb-false}
-use mathlib.Core.List.{List}
 use Rattle.rules.specs.Basics.{rowBytes}
-use Rattle.rules.specs.Answers.{over}
-use Rattle.rules.specs.Marks.{bytesThat}
 use Rattle.rules.proofs.Shape.{laid, shaped, one-block}
 use Rattle.rules.proofs.Verdicts.{passed, stopped}
 use Rattle.plan.proofs.Planned.{small-plan, total-is}
 use Rattle.rows.proofs.Rowing.{place-low}
-use Rattle.rigcandle.proofs.Answering.{row-marks, row-capture, marks-refused, marks-accepted, once-off, room-is, capture-is}
+use Rattle.rigcandle.proofs.Answering.{row-marks, row-capture, marks-refused, once-off, room-is, capture-is}
 use Rattle.rigcandle.proofs.Bounds.{vectors-low}
 use Rattle.rigcandle.proofs.Marking.{marks-are, captured, whole-capture, no-entries, readings-of, counts-low, marked-as}
 use Rattle.rigcandle.proofs.questions.answer_marks.Statement.{statement}

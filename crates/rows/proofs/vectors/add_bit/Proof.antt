@@ -1,6 +1,6 @@
 -- The bit decides whether the cell joins the row.
-use Prim.Native.Nat.{ℕ, _*_, _≤_, _<_}
-use mathlib.Core.Path.{_≡_, sym, _∙_, ap, ap₂, subst}
+use Prim.Native.Nat.{ℕ, _*_, _<_}
+use mathlib.Core.Path.{_≡_, sym, _∙_, subst}
 use mathlib.Core.Bool.{Bool}
 use mathlib.Core.List.{List}
 use native.Mathlib.Omega.{arith}
@@ -8,7 +8,7 @@ use borrow.Author.Needs.{needs}
 use Rattle.rules.specs.File.{Board}
 use Rattle.rules.specs.declared.Cell.{Cell}
 use Rattle.rules.proofs.Shape.{laid, shaped}
-use Rattle.words.specs.Sets.{netWords, cellWords, member}
+use Rattle.words.specs.Sets.{netWords, cellWords}
 use Rattle.words.proofs.Choosing.{plus-passes, plus-fails}
 use Rattle.board.specs.Whole.{Whole}
 use Rattle.rows.specs.Bits.{bitOf, bitAt, outNet}

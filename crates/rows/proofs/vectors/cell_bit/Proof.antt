@@ -1,6 +1,6 @@
 -- By the kind of the cell.
-use Prim.Native.Nat.{ℕ, _*_, _<_}
-use mathlib.Core.Path.{sym, _∙_, ap, subst}
+use Prim.Native.Nat.{_*_, _<_}
+use mathlib.Core.Path.{subst}
 use borrow.Author.Needs.{needs}
 use Rattle.rules.specs.declared.Cell.{Cell}
 use Rattle.words.specs.Sets.{netWords}

@@ -1,12 +1,8 @@
 -- Vector t's step gives its group and its nets' values, and these its row.
-use Prim.Native.Nat.{ℕ, _+_, _*_, _≤_}
-use mathlib.Core.Bool.{Bool}
-use mathlib.Core.List.{List}
-use mathlib.Core.Path.{_≡_, sym, _∙_, ap, subst}
+use mathlib.Core.Path.{sym, _∙_, ap, subst}
 use native.Mathlib.Omega.{arith}
 use borrow.Author.Needs.{needs}
 use Rattle.rules.specs.Vectors.{Vector}
-use Rattle.rules.specs.declared.Step.{Step}
 use Rattle.rules.proofs.Rows.{vector-group}
 use Rattle.rules.proofs.Shape.{laid, shaped}
 use Rattle.select.proofs.Passing.{board-size}

@@ -3,8 +3,6 @@ use Prim.Native.Nat.{_-_, _≤_}
 use mathlib.Core.Path.{_≡_, _∙_}
 use native.Mathlib.Omega.{arith}
 use borrow.Author.Needs.{needs}
-use Rattle.rules.specs.File.{netsOf}
-use Rattle.rules.proofs.Shape.{laid, shaped}
 use Rattle.select.proofs.Largest.{count-in, so-far, so-far-none, so-far-more, so-far-all}
 use Rattle.select.proofs.degrees.groups_of.Statement.{statement}
 use Rattle.select.proofs.degrees.groups_of.Tie as tie

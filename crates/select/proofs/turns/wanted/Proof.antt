@@ -1,5 +1,4 @@
 -- By which pass it is.
-use mathlib.Core.Path.{refl, sym}
 use borrow.Author.Needs.{needs}
 use Rattle.select.specs.Turns.{wantedAt}
 use Rattle.select.proofs.turns.wanted.Statement.{statement}
