@@ -1,8 +1,13 @@
--- A row is short.
-use Prim.Native.Nat.{ℕ, _≤_}
+-- A row is short, and so is a number.
+use Prim.Native.Nat.{ℕ, _≤_, _<_, _-_, _^_}
 use mathlib.Core.Path.{_≡_}
 use mathlib.Core.List.{List}
+use mathlib.Core.Logic.{⊎-elim}
+use native.Mathlib.Nat.{pow-le-pow-right}
 use native.Mathlib.Omega.{arith}
+use lib.Dec.{lit<}
+use Rattle.io.specs.Digits.{Fewest}
+use Rattle.rules.proofs.Tests.{order}
 use Rattle.rules.specs.Basics.{ceil, rowBytes}
 use Rattle.rules.specs.File.{cellsOf}
 use Rattle.rules.proofs.Shape.{laid, shaped}
@@ -14,3 +19,16 @@ few-cells file heads links counts cells r e = let f = laid file (shaped file (r 
 pub row-short : (cells : ℕ) → cells ≤ 1024 → rowBytes cells ≤ 128
 unfolding rowBytes ceil
 row-short cells l = omega arith
+
+-- a number of 64 bits has at most 20 digits
+pub few-digits : (n k : ℕ) → n < 2 ^ 64 → Fewest 10 1 n k → k ≤ 20
+few-digits n k small f =
+    ⊎-elim
+    (λ (s : k < 21). omega arith)
+    (λ (l : 21 ≤ k).
+    let more : 20 ≤ k - 1 = omega arith in
+    let most : 10 ^ 20 ≤ 10 ^ (k - 1) = pow-le-pow-right (lit< tt) more in
+    let least : 10 ^ (k - 1) ≤ n = f .2 (omega arith) in
+    let never : 2 ^ 64 < 10 ^ 20 = lit< tt in
+    omega arith)
+    (order k 21)

@@ -1,7 +1,9 @@
 // The listing program: a board file on standard input; its vectors out, one a line, or its refusal.
+// Where it cannot read or write, it says so on standard error.
 ghost use mathlib.Core.Path.{_≡_};
-ghost use Prim.Native.Nat.{_<_, _≤_};
+ghost use Prim.Native.Nat.{ℕ, _+_, _*_, _<_, _≤_};
 ghost use lib.ListN.{length};
+ghost use lib.Seq.{paste};
 ghost use Rattle.rules.specs.File.{boardOf, cellsOf};
 ghost use Rattle.rules.specs.Vectors.{totalOf};
 ghost use Rattle.board.specs.Verdict.{Blank};
@@ -10,6 +12,9 @@ ghost use Rattle.plan.specs.Planning.{PlanOf};
 use blocks::MOST_CELLS;
 use blocks::MOST_NETS;
 use blocks::read_sizes;
+use libc::STDERR_FILENO;
+use libc::STDIN_FILENO;
+use libc::STDOUT_FILENO;
 use plan::boards::admit;
 use plan::boards::plan_of;
 use plan::steps::Plan;
@@ -25,6 +30,10 @@ const ROOM: usize = 7169;
 // The most bytes of a row.
 const ROW: usize = 128;
 
+// The most bytes of a line: two numbers of 20 digits and a byte after each, a row in digits, the
+// newline.
+const LINE: usize = 2 * 21 + 2 * ROW + 1;
+
 // A capital hex digit.
 fn hex_digit(n: u8) -> u8
     requires { ⌜ n ≤ 15 ⌝ }
@@ -35,28 +44,72 @@ fn hex_digit(n: u8) -> u8
     55 + n
 }
 
+// A text at a place of the line; answers the place after it.
+fn put(line: &mut [u8], at: usize, text: &[u8]) -> usize
+    requires { ⌜ at + length (now text) ≤ length (now line) ⌝ }
+    ensures { λ r. ⌜ r ≡ at + length (now (text .entry)) ⌝ }
+    ensures { λ _. ⌜ now (line .exit) ≡ paste (now (line .entry)) at (now (text .entry)) (length (now (text .entry))) ⌝ }
+{
+    for i in 0..text.len() {
+        line[at + i] = text[i];
+    }
+    at + text.len()
+}
+
+// A number, and a byte that ends it.
+fn put_number(line: &mut [u8], at: usize, n: usize, end: u8) -> usize
+    requires { ⌜ at + 21 ≤ length (now line) ⌝ }
+    ensures { λ r. ⌜ r ≤ at + 21 ⌝ }
+{
+    let mut digits = [0u8; 20];
+    let count = io::decimal(n as u64, &mut digits);
+    let next = put(line, at, &digits[..count]);
+    line[next] = end;
+    next + 1
+}
+
 // A byte in two digits.
-fn say_byte(byte: u8) {
+fn put_byte(line: &mut [u8], at: usize, byte: u8) -> usize
+    requires { ⌜ at + 2 ≤ length (now line) ⌝ }
+    ensures { λ r. ⌜ r ≡ at + 2 ⌝ }
+{
     let pair = [hex_digit(byte / 16), hex_digit(byte % 16)];
-    io::write_all(1, &pair);
+    put(line, at, &pair)
 }
 
 // The row's bytes, byte 0 first.
-fn say_row(row: &[u8], bytes: usize)
-    requires { ⌜ bytes ≤ length (now row) ⌝ }
+fn put_row(line: &mut [u8], at: usize, row: &[u8]) -> usize
+    requires { ⌜ at + 2 * length (now row) ≤ length (now line) ⌝ }
+    ensures { λ r. ⌜ r ≡ at + 2 * length (now (row .entry)) ⌝ }
 {
-    for j in 0..bytes {
-        say_byte(row[j]);
+    let mut next = at;
+    for j in 0..row.len() {
+        next = put_byte(line, next, row[j]);
     }
+    next
 }
 
-// A number and a space.
-fn say_number(n: usize) {
-    io::print_decimal(1, n as u64);
-    io::write_all(1, b" ");
+// Writes the line up to its end, in one call. Answers whether it could, as does every function below
+// that lists.
+fn say(line: &[u8], end: usize) -> bool
+    requires { ⌜ end ≤ length (now line) ⌝ }
+{
+    io::write_all(STDOUT_FILENO, &line[0..end])
 }
 
-// A line: vector number, group, row.
+// The line of a vector: its number, its group, its row.
+fn say_row(t: usize, group: usize, row: &[u8]) -> bool
+    requires { ⌜ length (now row) ≤ 128 ⌝ }
+{
+    let mut line = [0u8; LINE];
+    let group_at = put_number(&mut line, 0, t, b' ');
+    let row_at = put_number(&mut line, group_at, group, b' ');
+    let end_at = put_row(&mut line, row_at, row);
+    let end = put(&mut line, end_at, b"\n");
+    say(&line, end)
+}
+
+// Vector t of an admitted board, as a line.
 fn say_vector(
     file: &[u8],
     heads: &[u16],
@@ -65,7 +118,7 @@ fn say_vector(
     cells: usize,
     plan: Plan,
     t: usize,
-)
+) -> bool
     requires { ⌜ Ready (now file) (now heads) (now links) (now counts) ⌝ }
     requires { ⌜ cells ≡ cellsOf (now file) ⌝ }
     requires { ⌜ PlanOf (boardOf (now file)) plan ⌝ }
@@ -73,36 +126,46 @@ fn say_vector(
 {
     let mut row = [0u8; ROW];
     let group = write_vector(file, heads, links, counts, cells, plan, t, &mut row);
-    say_number(t);
-    say_number(group);
-    say_row(&row, row_bytes(cells));
-    io::write_all(1, b"\n");
+    let bytes = row_bytes(cells);
+    say_row(t, group, &row[0..bytes])
 }
 
-// The vector total, and then a line for each vector.
-fn say_vectors(file: &[u8], heads: &[u16], links: &[u16], counts: &[u16])
+// The line of the vector total.
+fn say_total(vectors: usize) -> bool {
+    let mut line = [0u8; LINE];
+    let at = put(&mut line, 0, b"vectors ");
+    let end = put_number(&mut line, at, vectors, b'\n');
+    say(&line, end)
+}
+
+// The vector total, and then a line for each vector, up to the first that cannot be written.
+fn say_vectors(file: &[u8], heads: &[u16], links: &[u16], counts: &[u16]) -> bool
     requires { ⌜ Ready (now file) (now heads) (now links) (now counts) ⌝ }
 {
     let cells = read_sizes(file).cells;
     let plan = plan_of(file, heads, links, counts);
     let vectors = total(plan);
-    io::write_all(1, b"vectors ");
-    io::print_decimal(1, vectors as u64);
-    io::write_all(1, b"\n");
-    for t in 0..vectors {
-        say_vector(file, heads, links, counts, cells, plan, t);
+    if !say_total(vectors) {
+        return false;
     }
+    for t in 0..vectors {
+        if !say_vector(file, heads, links, counts, cells, plan, t) {
+            return false;
+        }
+    }
+    true
 }
 
 // The line of a refusal: number and place.
-fn say_refusal(refusal: Refusal) {
-    io::write_all(1, b"refused ");
-    say_number(refusal.number as usize);
-    io::print_decimal(1, refusal.place as u64);
-    io::write_all(1, b"\n");
+fn say_refusal(refusal: Refusal) -> bool {
+    let mut line = [0u8; LINE];
+    let number_at = put(&mut line, 0, b"refused ");
+    let place_at = put_number(&mut line, number_at, refusal.number as usize, b' ');
+    let end = put_number(&mut line, place_at, refusal.place as usize, b'\n');
+    say(&line, end)
 }
 
-// Checks the board once, and lists it.
+// Checks the board once, and lists it. Answers whether every line could be written.
 fn list(
     file: &[u8],
     heads: &mut [u16],
@@ -110,7 +173,7 @@ fn list(
     net_heads: &mut [u16],
     net_links: &mut [u16],
     counts: &mut [u16],
-)
+) -> bool
     requires { ⌜ Blank (now heads) (now links) (now «net_heads») (now «net_links») (now counts) ⌝ }
 {
     let admitted = admit(file, heads, links, net_heads, net_links, counts);
@@ -120,6 +183,44 @@ fn list(
     }
 }
 
+// What came of reading: how many bytes, or that a read failed.
+enum Input {
+    Bytes(usize),
+    Unread,
+}
+
+// One read, into the file from a place on: 0 bytes at the input's end.
+fn read_from(file: &mut [u8], from: usize) -> Input
+    requires { ⌜ from ≤ length (now file) ⌝ }
+    ensures { λ r. ⌜ ((n : ℕ) → r ≡ Input.Bytes n → from + n ≤ length (now (file .entry))) ⌝ }
+{
+    let rest = &mut file[from..];
+    let got = libc::read(STDIN_FILENO, rest);
+    if got < 0 {
+        return Input::Unread;
+    }
+    Input::Bytes(io::count(got, rest))
+}
+
+// Reads to the input's end, or until the file is full. Not io::read_full, which takes a read that
+// fails for the end.
+fn read_input(file: &mut [u8]) -> Input
+    ensures { λ r. ⌜ ((n : ℕ) → r ≡ Input.Bytes n → n ≤ length (now (file .entry))) ⌝ }
+{
+    let mut done = 0;
+    while done < file.len() {
+        let read = read_from(file, done);
+        let Input::Bytes(more) = read else {
+            return Input::Unread;
+        };
+        if more == 0 {
+            return Input::Bytes(done);
+        }
+        done += more;
+    }
+    Input::Bytes(done)
+}
+
 fn main() {
     let mut file = [0u8; ROOM];
     let mut heads = [0u16; MOST_CELLS];
@@ -127,13 +228,20 @@ fn main() {
     let mut net_heads = [0u16; MOST_NETS];
     let mut net_links = [0u16; MOST_CELLS];
     let mut counts = [0u16; MOST_NETS];
-    let n = io::read_full(0, &mut file);
-    list(
-        &file[..n],
+    let input = read_input(&mut file);
+    let Input::Bytes(n) = input else {
+        io::write_all(STDERR_FILENO, b"listing: cannot read\n");
+        return;
+    };
+    let listed = list(
+        &file[0..n],
         &mut heads,
         &mut links,
         &mut net_heads,
         &mut net_links,
         &mut counts,
     );
+    if !listed {
+        io::write_all(STDERR_FILENO, b"listing: cannot write\n");
+    }
 }

@@ -1,9 +1,16 @@
--- The program's own tables are blank, and the file is as long as what was read.
+-- The program's own tables are blank, and what was read is within the file.
+use native.Mathlib.Omega.{arith}
 use borrow.Author.Needs.{needs}
 use Rattle.rules.specs.Refusals.{mostCells, mostNets}
 use Rattle.board.proofs.Blanks.{blank}
 use Rattle.listing.proofs.main.Statement.{statement}
 use Rattle.listing.proofs.main.Tie as tie
+
+part-list-end : tie.Need-part-list-end
+part-list-end c =
+    let d = c .before .before in
+    let f = d .before .before .before .read-input .ensures _ (d .input .given .1) in
+    omega (arith, f)
 
 list-requires : tie.Need-list-requires
 list-requires c κs =
@@ -12,4 +19,4 @@ list-requires c κs =
 pub main-spec : {M : Type 1} → statement M
 main-spec =
     tie.close
-    (tie.spec (λ c. search needs) (λ c κs. search needs) (λ c. search needs) (λ c. search needs) (λ c. search needs) (λ c. search needs) (λ c. search needs) (λ c. search needs) (λ c. search needs) list-requires (λ c. tt))
+    (tie.spec (λ c. search needs) (λ c κs. search needs) (λ c. search needs) (λ c. search needs) (λ c. search needs) (λ c κs. search needs) (λ c. tt) (λ c. search needs) (λ c. search needs) part-list-end (λ c. search needs) (λ c. search needs) (λ c. search needs) (λ c. search needs) (λ c. search needs) list-requires (λ c. search needs) (λ c κs. search needs) (λ c. tt) (λ c. tt))

@@ -20,15 +20,17 @@ abbrev μ-loop : tie.MeasureT-loop
 
 loop-holds : tie.Need-loop-holds Inv-loop μ-loop
 loop-holds c =
-    let h = c .before .before .before .before .before .before .plan-of .ensures in
-    (c .before .before .before .before .before .before .before .read-sizes .ensures .cells, h, c .before .before .before .before .before .total .ensures ∙ total-is _ _ h)
+    let d = c .before .before in
+    let h = d .before .plan-of .ensures in
+    (d .before .before .read-sizes .ensures .cells, h, d .total .ensures ∙ total-is _ _ h)
 
 say-vector-requires : tie.Need-say-vector-requires Inv-loop μ-loop
 say-vector-requires c κs =
     let inv = c .before .loop .inv in
-    (c .before .before .before .before .before .before .before .before .before .before .before .before .before .before .pre, (inv .0, (inv .1, rw (← inv .2) (c .loop-test .taken))))
+    let d = c .before .before .before .before .before in
+    (d .before .before .before .before .before .before .pre, (inv .0, (inv .1, rw (← inv .2) (c .loop-test .taken))))
 
 pub say-vectors-spec : {M : Type 1} → statement M
 say-vectors-spec =
     tie.close
-    (tie.spec Inv-loop μ-loop (λ c κs. one-block _ (laid _ (shaped _ (c .before .before .before .before .pre .by-control .checked)))) (λ c κs. c .before .before .before .before .before .pre) (λ c κs. small-plan _ (c .before .before .before .before .before .before .pre .accepted) _ (c .plan-of .ensures)) (λ c. search needs) (λ c κs. search needs) (λ c κs. search needs) (λ c. search needs) (λ c κs. search needs) loop-holds say-vector-requires (λ c. omega (arith, c .before .loop-test .taken)) (λ c. omega (arith, c .before .loop-test .taken)) (λ c. c .before .before .loop .inv) (λ c. tt))
+    (tie.spec Inv-loop μ-loop (λ c κs. one-block _ (laid _ (shaped _ (c .before .before .before .before .pre .by-control .checked)))) (λ c κs. c .before .before .before .before .before .pre) (λ c κs. small-plan _ (c .before .before .before .before .before .before .pre .accepted) _ (c .plan-of .ensures)) (λ c κs. search needs) (λ c. tt) loop-holds say-vector-requires (λ c. tt) (λ c. omega (arith, c .before .before .loop-test .taken)) (λ c. omega (arith, c .before .before .loop-test .taken)) (λ c. c .before .before .before .loop .inv) (λ c. tt))

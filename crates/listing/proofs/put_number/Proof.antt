@@ -1,0 +1,29 @@
+-- A number has at most 20 digits.
+use Prim.Native.Nat.{_≤_}
+use native.Mathlib.Omega.{arith}
+use borrow.Author.Needs.{needs}
+use lib.ListN.{length-take}
+use Rattle.listing.proofs.Short.{few-digits}
+use Rattle.listing.proofs.put_number.Statement.{statement}
+use Rattle.listing.proofs.put_number.Tie as tie
+
+-- seen from where the digits are made
+few : (d : tie.After-decimal) → d .decimal .result ≤ 20
+few d = few-digits _ _ (d .before .before .before .fits .n .fits) (d .decimal .ensures .1 .0)
+
+put-requires : tie.Need-put-requires
+put-requires c κs = let k = few (c .before .before) in simp length-take (omega arith)
+
+slice-write-line : tie.Need-slice-write-line
+slice-write-line c = let k = few (c .before .before .before .before .before) in omega arith
+
+add-result : tie.Need-add-result
+add-result c = let k = few (c .before .before .before .before .before) in omega arith
+
+returns : tie.Need-returns
+returns c = let k = few (c .before .before .before .before .before) in omega arith
+
+pub put-number-spec : {M : Type 1} → statement M
+put-number-spec =
+    tie.close
+    (tie.spec (λ c κs. search needs) (λ c. search needs) (λ c. search needs) put-requires slice-write-line add-result (λ c. search needs) returns)
