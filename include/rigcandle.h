@@ -20,10 +20,13 @@
  *
  * What a caller gets:
  *   - the file and the capture are only read;
- *   - a refusal writes no byte;
+ *   - a refusal writes no byte, so that what stood in out still stands there: look at rigcandle_refusal before anything else;
  *   - an accepted call writes the bytes it needs, from the first of out on, and those past them keep their values.
  *
- * Linking: librigcandle.a needs memcpy, memmove and memset, and nothing else.
+ * The release rule is rigcandle_all_pass and nothing weaker. A refused marks call says 0 fail and 0 unsure, and a buffer that began
+ * with zeros still says pass for every net: neither is a verdict. A compiler that can warn of an answer that nobody looks at does.
+ *
+ * Linking: librigcandle.a is x86-64 code for the System V calling convention (Linux and its like) and needs memset, and nothing else.
  *
  * Names: the four functions are called groups, count, vector and marks, as in the document, and these are common names. Include this
  * header only where the questions are asked. A program must have no other global function or variable of these names; where it does,
@@ -37,6 +40,16 @@
 
 #include <stddef.h>
 #include <stdint.h>
+
+/* The version of library, header and command, and the only place where it stands. */
+#define RIGCANDLE_VERSION "1.0.0"
+
+/* An answer that nobody looks at may be a refusal taken for a clean board: such a call is warned of. */
+#if defined(__GNUC__) || defined(__clang__)
+#define RIGCANDLE_LOOK_AT_ANSWER __attribute__((warn_unused_result))
+#else
+#define RIGCANDLE_LOOK_AT_ANSWER
+#endif
 
 /* Limits of a board, and the sizes of buffers that follow from them. */
 enum {
@@ -94,18 +107,21 @@ extern "C" {
  * is on. Position c is bit c mod 8 (from the least) of byte c / 8; spare bits are 0.
  * Answers G. Refusals 1 to 12 and 15.
  */
+RIGCANDLE_LOOK_AT_ANSWER
 uint64_t groups(const uint8_t *file, size_t file_len, uint8_t *out, size_t out_len);
 
 /*
  * The number of vectors. Writes nothing.
  * Answers G, p (the patterns of a group) and the total. Refusals 1 to 12.
  */
+RIGCANDLE_LOOK_AT_ANSWER
 uint64_t count(const uint8_t *file, size_t file_len);
 
 /*
  * The vector of this number, from 0 to total - 1. Writes its row of R bytes, in the groups' bit order: what is shifted into the chain.
  * Answers its group, from 1. Refusals 1 to 12, 13 and 15.
  */
+RIGCANDLE_LOOK_AT_ANSWER
 uint64_t vector(const uint8_t *file, size_t file_len, uint64_t number, uint8_t *out, size_t out_len);
 
 /*
@@ -113,6 +129,7 @@ uint64_t vector(const uint8_t *file, size_t file_len, uint64_t number, uint8_t *
  * Writes N bytes, net 0 first, each one of the four marks above.
  * Answers how many nets pass, fail and are unsure. Refusals 1 to 12, 14 and 15.
  */
+RIGCANDLE_LOOK_AT_ANSWER
 uint64_t marks(const uint8_t *file, size_t file_len, const uint8_t *capture, size_t capture_len, uint8_t *out, size_t out_len);
 
 #ifdef __cplusplus
@@ -205,6 +222,14 @@ static inline unsigned rigcandle_marks_fail(uint64_t answer)
 static inline unsigned rigcandle_marks_unsure(uint64_t answer)
 {
     return rigcandle_if_accepted(answer, 40, 16);
+}
+
+/* The release rule: 1 where the marks call was accepted, none of its nets fails or is unsure and all `nets` of the board (N) pass; else
+ * 0. A number of nets that is not the board's never makes it 1. */
+static inline int rigcandle_all_pass(uint64_t answer, unsigned nets)
+{
+    return rigcandle_refusal(answer) == RIGCANDLE_ACCEPTED && nets != 0u && rigcandle_marks_pass(answer) == nets &&
+           rigcandle_marks_fail(answer) == 0u && rigcandle_marks_unsure(answer) == 0u;
 }
 
 #endif

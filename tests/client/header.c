@@ -59,6 +59,26 @@ static void check_refused(void)
     same("refused, marks, unsure", rigcandle_marks_unsure(answer), 0);
 }
 
+/* The release rule on the answers of a marks call: pass, fail, unsure. */
+static uint64_t marked(uint64_t pass, uint64_t fail, uint64_t unsure)
+{
+    return pass << 8 | fail << 24 | unsure << 40;
+}
+
+static void check_release(void)
+{
+    same("all pass", (unsigned)rigcandle_all_pass(marked(3, 0, 0), 3), 1);
+    same("one fails", (unsigned)rigcandle_all_pass(marked(2, 1, 0), 3), 0);
+    same("one is unsure", (unsigned)rigcandle_all_pass(marked(2, 0, 1), 3), 0);
+    same("fewer nets than the board's, one fails", (unsigned)rigcandle_all_pass(marked(2, 1, 0), 2), 0);
+    same("fewer nets than the board's, one is unsure", (unsigned)rigcandle_all_pass(marked(2, 0, 1), 2), 0);
+    same("more nets than the board's", (unsigned)rigcandle_all_pass(marked(3, 0, 0), 4), 0);
+    same("no nets", (unsigned)rigcandle_all_pass(0, 0), 0);
+    same("a refusal", (unsigned)rigcandle_all_pass(RIGCANDLE_CAPTURE_LENGTH, 0), 0);
+    same("a refusal with a place", (unsigned)rigcandle_all_pass(marked(3, 0, 0) | RIGCANDLE_CROSSING, 3), 0);
+    same("256 pass", (unsigned)rigcandle_all_pass(marked(256, 0, 0), 256), 1);
+}
+
 static void check_empty_file(void)
 {
     same("groups", rigcandle_refusal(LIBRARY(groups)(NULL, 0, NULL, 0)), RIGCANDLE_FILE_LENGTH);
@@ -71,6 +91,7 @@ int main(void)
 {
     check_accepted();
     check_refused();
+    check_release();
     check_empty_file();
     return wrong;
 }
