@@ -13,10 +13,11 @@ use Rattle.rules.specs.Drivers.{controlled, controlFor, alwaysOn, onNet, output
 use Rattle.rules.specs.Refusals.{clash, clashing}
 use Rattle.rules.proofs.Tests.{left, right, both, or-left, or-right, or-cases, not-fails, fails-not, clashes, order, any-at, any-member, same-test}
 use Rattle.rules.proofs.Driving.{kinds-differ}
-use Rattle.board.specs.Driving.{driverIn, conflictOf, conflictAt}
-use Rattle.board.specs.declared.drivers.Driver.{Driver}
-use Rattle.board.specs.declared.drivers.Driver.the-variants.{Of, Nothing}
-use Rattle.board.proofs.Drives.{is-driver, no-driver}
+use Rattle.cells.specs.Driven.{driverIn}
+use Rattle.board.specs.Nets.{conflictOf, conflictAt}
+use Rattle.cells.specs.declared.Driver.{Driver}
+use Rattle.cells.specs.declared.Driver.the-variants.{Of, Nothing}
+use Rattle.cells.proofs.DrivenLaws.{is-driver, no-driver}
 
 module _ (b : Board) (n : ℕ) where
   -- an output with a lower one of the same net that may not stand beside it

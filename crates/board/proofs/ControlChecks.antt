@@ -19,11 +19,11 @@ use Rattle.rules.proofs.Shape.{laid, shaped, whole-records}
 use Rattle.rules.proofs.Acceptance.{kept-control, kept-net}
 use Rattle.words.specs.Sets.{netWords, cellWords, meetsIn, insideIn, lieBy, lieOf}
 use Rattle.words.proofs.Bounds.{meets-bound, inside-bound}
-use Rattle.board.specs.Chains.{ControlCell, keyed}
-use Rattle.board.specs.Sharing.{partnersOf}
+use Rattle.chains.specs.Chains.{ControlCell, keyed}
+use Rattle.chains.specs.Sharing.{partnersOf}
 use Rattle.board.specs.Controls.{isCrossing, driversAt}
-use Rattle.board.proofs.Chaining.{keyed-control}
-use Rattle.board.proofs.Brought.{own-net}
+use Rattle.chains.proofs.Chaining.{keyed-control}
+use Rattle.chains.proofs.Brought.{own-net}
 
 -- crossing is: meeting, and neither inside the other
 crossing-by : (x y z : Bool) → isCrossing (lieBy x y z) ≡ (z && not x && not y)

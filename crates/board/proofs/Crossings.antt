@@ -21,11 +21,11 @@ use Rattle.rules.proofs.Shape.{whole-records}
 use Rattle.rules.proofs.Acceptance.{kept-control}
 use Rattle.rules.proofs.Searching.{Searched, found, ended}
 use Rattle.words.specs.Sets.{netWords, nothing, either, member, meetsIn, insideIn, lieBy, lieOf}
-use Rattle.board.specs.Chains.{ControlCell, keyed, Chains}
-use Rattle.board.proofs.Walks.{cell-in, none-keyed}
+use Rattle.chains.specs.Chains.{ControlCell, keyed, Chains}
+use Rattle.chains.proofs.Walks.{cell-in, none-keyed}
 use Rattle.board.specs.Controls.{isClear, sameIn, Twin, crossedFrom, Idle, Walked}
 use Rattle.board.specs.declared.controls.Above.{Above}
-use Rattle.board.proofs.Chaining.{keyed-control}
+use Rattle.chains.proofs.Chaining.{keyed-control}
 use Rattle.board.proofs.ControlChecks.{past, nets-fit, crosses-is}
 
 -- what crossing is, part by part

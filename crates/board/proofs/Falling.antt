@@ -11,12 +11,13 @@ use Rattle.rules.specs.File.{Board, boardOf, cellsOf, none}
 use Rattle.rules.specs.Drivers.{outputOf}
 use Rattle.rules.specs.Refusals.{clashing}
 use Rattle.rules.proofs.Tests.{left, right, fails-if, clashes, order, any-member, none-any}
-use Rattle.board.specs.declared.drivers.Driver.{Driver}
-use Rattle.board.specs.declared.drivers.Driver.the-variants.{Of, Nothing}
-use Rattle.board.specs.Chains.{NetOf, keyed, last, Chains}
-use Rattle.board.specs.Driving.{driverIn, controlIn, conflictOf, conflictAt}
-use Rattle.board.proofs.Chaining.{last-le, last-member, last-above, last-again, keyed-net}
-use Rattle.board.proofs.Walks.{above}
+use Rattle.cells.specs.declared.Driver.{Driver}
+use Rattle.cells.specs.declared.Driver.the-variants.{Of, Nothing}
+use Rattle.chains.specs.Chains.{NetOf, keyed, last, Chains}
+use Rattle.cells.specs.Driven.{driverIn}
+use Rattle.board.specs.Nets.{controlIn, conflictOf, conflictAt}
+use Rattle.chains.proofs.Chaining.{last-le, last-member, last-above, last-again, keyed-net}
+use Rattle.chains.proofs.Walks.{above}
 use Rattle.board.proofs.Clashing.{atOdds, clashing-odds}
 
 -- a walk down to `at` along the chain p, with `low` the last of the numbers: they fell from none on

@@ -16,10 +16,10 @@ use Rattle.blocks.specs.Places.{mostNumber}
 use Rattle.rules.proofs.Tests.{same-test, any-at, any-member}
 use Rattle.rules.proofs.Shape.{laid, shaped}
 use Rattle.rules.proofs.Verdicts.{andThen, Then, judge-then, judge-same}
-use Rattle.board.specs.Chains.{NetOf, keyed, keysOf, last}
+use Rattle.chains.specs.Chains.{NetOf, keyed, keysOf, last}
 use Rattle.board.specs.Nets.{outside, outsideAt, Checkable}
-use Rattle.board.proofs.Chaining.{keyed-net}
-use Rattle.board.proofs.Walks.{head-low}
+use Rattle.chains.proofs.Chaining.{keyed-net}
+use Rattle.chains.proofs.Walks.{head-low}
 
 -- the last is none where none passes
 last-none : (n : ℕ) (p : ℕ → Bool) → eqb (last n p) 0 ≡ not (any n p)

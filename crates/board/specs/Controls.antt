@@ -12,8 +12,8 @@ use Rattle.words.specs.Sets.{member, insideIn}
 use Rattle.words.specs.declared.Lie.{Lie}
 use Rattle.words.specs.declared.Lie.the-variants.{Apart, Inside, Holds, Equal, Crossing}
 use Rattle.board.specs.declared.controls.Above.{Above}
-use Rattle.board.specs.Chains.{ControlCell, NetOf, Chains}
-use Rattle.board.specs.Driving.{Counted}
+use Rattle.chains.specs.Chains.{ControlCell, NetOf, Chains}
+use Rattle.chains.specs.Counts.{Counted}
 
 -- the one way that two net sets may not lie
 unfoldable pub isCrossing : Lie → Bool

@@ -1,8 +1,4 @@
--- What the board's functions may assume, and the chains that they walk.
-pub mod Whole
-pub mod Chains
-pub mod Driving
+-- What refusals 7 to 11 are checked by, over the tables that a whole file fills.
 pub mod Nets
-pub mod Sharing
 pub mod Controls
 pub mod Verdict

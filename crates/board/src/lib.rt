@@ -1,8 +1,4 @@
-// The board: its records, its nets and its control cells, and the verdict on all of them.
-pub mod cells;
-pub mod chains;
+// The board: refusals 7 to 11, of its nets and of its control cells, and the verdict on a file.
 pub mod controls;
-pub mod drivers;
 pub mod nets;
-pub mod sharing;
 pub mod verdict;

@@ -7,15 +7,15 @@ ghost use lib.ListN.{length};
 ghost use Rattle.rules.specs.Basics.{any};
 ghost use Rattle.rules.specs.File.{boardOf, cellsOf, netsOf};
 ghost use Rattle.rules.specs.Refusals.{judge, each, clashing, netChecks};
-ghost use Rattle.board.specs.Chains.{NetOf, keyed, Chains};
-ghost use Rattle.board.specs.Driving.{driverIn, controlIn, conflictAt};
-ghost use Rattle.board.specs.Nets.{outside, outsideAt, Checkable};
-ghost use Rattle.board.specs.Whole.{Whole};
-use crate::cells::cell_at;
-use crate::chains::held;
-use crate::drivers::Driver;
-use crate::drivers::conflict;
-use crate::drivers::driver_of;
+ghost use Rattle.chains.specs.Chains.{NetOf, keyed, Chains};
+ghost use Rattle.cells.specs.Driven.{driverIn};
+ghost use Rattle.board.specs.Nets.{controlIn, conflictOf, conflictAt, outside, outsideAt, Checkable};
+ghost use Rattle.cells.specs.Whole.{Whole};
+use cells::Driver;
+use cells::cell_at;
+use cells::driver_of;
+use chains::held;
+use rules::Cell;
 use rules::Verdict;
 
 // "at most 16 controlled drivers on a net"
@@ -51,6 +51,21 @@ fn outside_verdict(number: u8, table: &[u16], low: u16, high: u16, nets: usize) 
         n += 1;
     }
     Verdict::Accepted
+}
+
+// Two outputs of one net that may not stand together: one is always on, or both are of one control cell.
+fn conflict(a: Cell, b: Cell) -> bool
+    ensures { λ r. ⌜ r ≡ conflictOf (driverIn a) (driverIn b) ⌝ }
+{
+    let first = driver_of(a);
+    let Driver::Of(k, _) = first else {
+        return true;
+    };
+    let second = driver_of(b);
+    let Driver::Of(j, _) = second else {
+        return true;
+    };
+    k.0 == j.0
 }
 
 // Some lower output of the net of the output at c may not stand beside it.

@@ -1,20 +1,13 @@
 // The verdict on a board file: refusals 1 to 11, in their order.
 ghost use mathlib.Core.Path.{_≡_};
-ghost use Prim.Native.Nat.{_+_, _<_};
 ghost use mathlib.Core.List.{_++_};
-ghost use Rattle.rules.specs.File.{boardOf, cellsOf};
+ghost use Rattle.rules.specs.File.{boardOf};
 ghost use Rattle.rules.specs.Refusals.{judge, fileChecks, netChecks, controlChecks, boardChecks};
 ghost use Rattle.rules.specs.declared.Verdict.the-variants.{Accepted};
-ghost use Rattle.board.specs.Verdict.{Blank, Entered, Fillable, Filled, Judgeable};
-use crate::cells::cell_at;
-use crate::cells::records_verdict;
-use crate::chains::Key;
-use crate::chains::link;
-use crate::chains::net_key;
+ghost use Rattle.chains.specs.Filling.{Blank, Filled};
+ghost use Rattle.board.specs.Verdict.{Judgeable};
 use crate::controls::crossed_verdict;
 use crate::controls::unequal_verdict;
-use crate::drivers::Driver;
-use crate::drivers::driver_of;
 use crate::nets::nets_verdict;
 use blocks::MOST_CELLS;
 use blocks::MOST_NETS;
@@ -23,6 +16,8 @@ use blocks::layout_verdict;
 use blocks::length_verdict;
 use blocks::read_sizes;
 use blocks::sums_verdict;
+use cells::records_verdict;
+use chains::filling::fill_tables;
 use rules::Verdict;
 
 // Refusals 1 to 6: the file.
@@ -72,54 +67,6 @@ fn tables_verdict(
         return crossed;
     };
     unequal_verdict(file, heads, links, counts, cells)
-}
-
-// The chains and counts of the positions below c, grown by c.
-fn enter(
-    file: &[u8],
-    c: usize,
-    heads: &mut [u16],
-    links: &mut [u16],
-    net_heads: &mut [u16],
-    net_links: &mut [u16],
-    counts: &mut [u16],
-)
-    requires { ⌜ Entered (now file) c (now heads) (now links) (now «net_heads») (now «net_links») (now counts) ⌝ }
-    requires { ⌜ c < cellsOf (now file) ⌝ }
-    ensures { λ r. ⌜ Entered (now (file .entry)) (c + 1) (now (heads .exit)) (now (links .exit)) (now («net_heads» .exit)) (now («net_links» .exit)) (now (counts .exit)) ⌝ }
-{
-    let cell = cell_at(file, c);
-    let output = net_key(cell);
-    let Key::Of(n) = output else {
-        return;
-    };
-    link(c, n, net_heads, net_links);
-    let driver = driver_of(cell);
-    let Driver::Of(k, _) = driver else {
-        return;
-    };
-    link(c, k.0 as usize, heads, links);
-    counts[n] = counts[n] + 1;
-}
-
-// The chains and counts of a whole file, in tables that hold nothing yet.
-fn fill_tables(
-    file: &[u8],
-    cells: usize,
-    heads: &mut [u16],
-    links: &mut [u16],
-    net_heads: &mut [u16],
-    net_links: &mut [u16],
-    counts: &mut [u16],
-)
-    requires { ⌜ Fillable (now file) cells (now heads) (now links) (now «net_heads») (now «net_links») (now counts) ⌝ }
-    ensures { λ r. ⌜ Filled (now (file .entry)) (now (heads .exit)) (now (links .exit)) (now («net_heads» .exit)) (now («net_links» .exit)) (now (counts .exit)) ⌝ }
-{
-    let mut c = 0;
-    while c < cells {
-        enter(file, c, heads, links, net_heads, net_links, counts);
-        c += 1;
-    }
 }
 
 // Refusals 1 to 11, with the tables of an accepted board left in the lent ones, which hold nothing yet.

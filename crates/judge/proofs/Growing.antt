@@ -12,9 +12,8 @@ use Rattle.rules.specs.Basics.{any}
 use Rattle.rules.specs.File.{Board}
 use Rattle.rules.specs.Marks.{inputOf}
 use Rattle.rules.specs.declared.Net.{Net}
-use Rattle.rules.proofs.Tests.{left, right, both, fails-if, fails-not, not-fails, clashes, same-test}
+use Rattle.rules.proofs.Tests.{left, right, both, fails-if, fails-not, not-fails, clashes, same-test, eqb-back}
 use Rattle.words.specs.Sets.{member, nothing, plus}
-use Rattle.board.proofs.Sets.{eqb-back}
 use Rattle.judge.specs.Judging.{read, failsAt, twiceAt, seenBy, failedBy, twiceBy, readerIn, plusRead, TestedBelow, Tested}
 use Rattle.judge.specs.declared.marks.Reader.the-variants.{Of, Nothing}
 use Rattle.judge.specs.declared.marks.Tests.{Tests}

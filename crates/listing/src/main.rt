@@ -6,7 +6,7 @@ ghost use lib.ListN.{length};
 ghost use lib.Seq.{paste};
 ghost use Rattle.rules.specs.File.{boardOf, cellsOf};
 ghost use Rattle.rules.specs.Vectors.{totalOf};
-ghost use Rattle.board.specs.Verdict.{Blank};
+ghost use Rattle.chains.specs.Filling.{Blank};
 ghost use Rattle.select.specs.Turns.{Ready};
 ghost use Rattle.plan.specs.Planning.{PlanOf};
 use blocks::MOST_CELLS;

@@ -20,7 +20,7 @@ use Rattle.rules.proofs.Shape.{laid, shaped}
 use Rattle.rules.proofs.Verdicts.{Then, then-append, append-pass, all-pass, accepted}
 use Rattle.plan.specs.declared.steps.Plan.{Plan}
 use Rattle.words.specs.Sets.{upTo}
-use Rattle.board.specs.Verdict.{Filled}
+use Rattle.chains.specs.Filling.{Filled}
 use Rattle.plan.specs.Plans.{basesFor, Small}
 use Rattle.plan.specs.Planning.{PlanOf, Admitted}
 use Rattle.plan.proofs.Coding.{width-some, width-low}

@@ -7,7 +7,7 @@ ghost use Rattle.rules.specs.File.{boardOf};
 ghost use Rattle.rules.specs.Refusals.{judge, once, mostVectors, countChecks};
 ghost use Rattle.rules.specs.Vectors.{stepsOf};
 ghost use Rattle.rules.specs.declared.Verdict.the-variants.{Accepted};
-ghost use Rattle.board.specs.Verdict.{Blank, Filled};
+ghost use Rattle.chains.specs.Filling.{Blank, Filled};
 ghost use Rattle.select.specs.Turns.{Ready};
 ghost use Rattle.plan.specs.Planning.{PlanOf};
 ghost use Rattle.plan.specs.Plans.{basesFor, Small};

@@ -19,7 +19,7 @@ use Rattle.rules.proofs.Codes.{width-least}
 use Rattle.rules.proofs.Digits.{length-table}
 use Rattle.rules.proofs.Shape.{laid, shaped}
 use Rattle.rules.proofs.Tests.{passes-not}
-use Rattle.board.specs.Verdict.{Zero}
+use Rattle.chains.specs.Filling.{Zero}
 use Rattle.plan.specs.declared.steps.Plan.{Plan}
 use Rattle.plan.specs.Plans.{basesFor}
 use Rattle.plan.specs.Planning.{PlanOf}

@@ -1,7 +1,7 @@
 // The four questions over tables that are lent blank: refusals 1 to 12, then each question's own, then its answer.
 ghost use mathlib.Core.Path.{_≡_};
 ghost use Rattle.rules.specs.Answers.{countAnswer, countOutcome, groupsAnswer, groupsOutcome, vectorAnswer, vectorOutcome, marksAnswer, marksOutcome};
-ghost use Rattle.board.specs.Verdict.{Blank};
+ghost use Rattle.chains.specs.Filling.{Blank};
 ghost use Rattle.plan.specs.Planning.{Admitted};
 ghost use Rattle.rigcandle.specs.Asking.{BlankTable};
 use crate::packing::count_bits;

@@ -5,8 +5,8 @@ use mathlib.Core.Logic.{_⊎_, inl, inr, ⊎-elim}
 use mathlib.Core.Bool.{Bool, true, false, cond, not, _&&_, _||_, Bool·beq, xor, true≢false, false≢true}
 use native.Mathlib.Nat.{eq-or-lt-of-le, le-of-suc-le-suc, sub-zero, le-max-left, le-max-right}
 use native.Mathlib.Omega.{arith}
-use borrow.Author.Tests.{ltb-true, ltb-false}
-use lib.Dec.{ltb}
+use borrow.Author.Tests.{eqb-true, eq-eqb, ltb-true, ltb-false}
+use lib.Dec.{eqb, ltb}
 use Rattle.rules.specs.Basics.{digit, any, all, count, largest, seek, least}
 
 -- a test either passes or fails
@@ -77,6 +77,11 @@ pub same-test : (a c : Bool) → (a ≡ true → c ≡ true) → (c ≡ true →
 same-test true c f g = sym (f refl)
 same-test false true f g = g refl
 same-test false false f g = refl
+
+-- two numbers are compared either way round
+pub eqb-back : (a b : ℕ) → eqb a b ≡ eqb b a
+eqb-back a b =
+    same-test _ _ (λ t. eq-eqb b a (sym (eqb-true a b t))) (λ t. eq-eqb a b (sym (eqb-true b a t)))
 
 -- below suc n: n itself, or below n
 pub below-suc : {i n : ℕ} → i < suc n → (i ≡ n) ⊎ (i < n)

@@ -19,13 +19,13 @@ use Rattle.rules.specs.declared.Position.{Position}
 use Rattle.rules.proofs.Tests.{left, right, both, or-left, or-right, below-suc}
 use Rattle.rules.proofs.Passes.{open-at}
 use Rattle.rules.proofs.Selection.{Sound, degrees-equal}
-use Rattle.board.specs.declared.drivers.Driver.the-variants.{Of, Nothing}
-use Rattle.board.specs.Chains.{ControlCell, last, keyed, keysOf}
-use Rattle.board.specs.Driving.{driverIn}
-use Rattle.board.proofs.Chaining.{last-le, last-member, keyed-control}
+use Rattle.cells.specs.declared.Driver.the-variants.{Of, Nothing}
+use Rattle.chains.specs.Chains.{ControlCell, last, keyed, keysOf}
+use Rattle.cells.specs.Driven.{driverIn}
+use Rattle.chains.proofs.Chaining.{last-le, last-member, keyed-control}
 use Rattle.rules.proofs.Driving.{driver-own}
-use Rattle.board.proofs.Drives.{is-driver, no-driver, control-below}
-use Rattle.board.proofs.Walks.{cell-in}
+use Rattle.cells.proofs.DrivenLaws.{is-driver, no-driver, control-below}
+use Rattle.chains.proofs.Walks.{cell-in}
 use Rattle.select.specs.declared.turns.Pass.{Pass}
 use Rattle.select.specs.Turns.{wantedAt, wantedIn, Ready}
 use Rattle.select.specs.Highest.{highest, highestDrivers, passOver, Heads}

@@ -23,8 +23,8 @@ use Rattle.rules.proofs.Counting.{Onto, count-onto}
 use Rattle.rules.proofs.Acceptance.{kept-control}
 use Rattle.rules.proofs.Shape.{laid, shaped, whole-records}
 use Rattle.rules.proofs.Selection.{sound}
-use Rattle.board.specs.Chains.{ControlCell, last, keyed}
-use Rattle.board.specs.Verdict.{Zero}
+use Rattle.chains.specs.Chains.{ControlCell, last, keyed}
+use Rattle.chains.specs.Filling.{Zero}
 use Rattle.select.specs.declared.turns.Pass.{Pass}
 use Rattle.select.specs.Turns.{wantedIn, Ready}
 use Rattle.select.specs.Highest.{highest, highestDrivers, passOver, backwards, mostHighest, Ordered, Order}

@@ -16,10 +16,10 @@ use Rattle.rules.specs.declared.Position.{Position}
 use Rattle.rules.proofs.Shape.{laid, shaped}
 use Rattle.rules.proofs.Passes.{has-append}
 use Rattle.words.specs.Sets.{netWords, member, nothing, either, plus, meetsIn}
-use Rattle.board.specs.declared.drivers.Driver.the-variants.{Of, Nothing}
-use Rattle.board.specs.Driving.{driverIn}
-use Rattle.board.proofs.Drives.{is-driver, no-driver, net-below}
-use Rattle.board.proofs.Brought.{known-net}
+use Rattle.cells.specs.declared.Driver.the-variants.{Of, Nothing}
+use Rattle.cells.specs.Driven.{driverIn}
+use Rattle.cells.proofs.DrivenLaws.{is-driver, no-driver, net-below}
+use Rattle.chains.proofs.Brought.{known-net}
 use Rattle.select.specs.declared.turns.Pass.{Pass}
 use Rattle.select.specs.declared.turns.Pass.the-variants.{First, Second}
 use Rattle.select.specs.declared.turns.Turned.{Turned}

@@ -11,7 +11,7 @@ use Rattle.rules.specs.Drivers.{controlled, controlFor}
 use Rattle.rules.specs.Groups.{turn}
 use Rattle.rules.specs.Refusals.{judge, fileChecks}
 use Rattle.rules.specs.declared.Verdict.the-variants.{Accepted}
-use Rattle.board.specs.Chains.{ControlCell, last, keyed}
+use Rattle.chains.specs.Chains.{ControlCell, last, keyed}
 
 -- the cell at c is a driver, and the highest one of its control cell
 unfoldable pub highest : Board → ℕ → Bool

@@ -10,8 +10,8 @@ use Rattle.rules.specs.Drivers.{degree, drives}
 use Rattle.rules.specs.Refusals.{judge, boardChecks}
 use Rattle.rules.specs.declared.Verdict.the-variants.{Accepted}
 use Rattle.words.specs.Sets.{netWords, member, meetsIn}
-use Rattle.board.specs.Chains.{ControlCell, Chains}
-use Rattle.board.specs.Driving.{Counted}
+use Rattle.chains.specs.Chains.{ControlCell, Chains}
+use Rattle.chains.specs.Counts.{Counted}
 use Rattle.select.specs.declared.turns.Pass.{Pass}
 use Rattle.select.specs.declared.turns.Pass.the-variants.{First, Second}
 use Rattle.select.specs.declared.turns.Turned.{Turned}

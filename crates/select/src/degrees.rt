@@ -4,7 +4,7 @@ ghost use Prim.Native.Nat.{max};
 ghost use Rattle.rules.specs.File.{boardOf, netsOf};
 ghost use Rattle.rules.specs.Drivers.{groupsOf};
 ghost use Rattle.select.specs.Turns.{Ready};
-use board::chains::held;
+use chains::held;
 
 // The larger of two numbers.
 fn larger(a: usize, b: usize) -> usize

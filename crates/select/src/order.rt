@@ -2,12 +2,12 @@
 ghost use mathlib.Core.Path.{_≡_};
 ghost use Prim.Native.Nat.{_+_, _<_};
 ghost use Rattle.rules.specs.File.{boardOf, cellsOf};
-ghost use Rattle.board.specs.Verdict.{Zero};
+ghost use Rattle.chains.specs.Filling.{Zero};
 ghost use Rattle.select.specs.Highest.{highest, mostHighest, Heads, Ordered, Order};
-use board::cells::cell_at;
-use board::chains::held;
-use board::drivers::Driver;
-use board::drivers::driver_of;
+use cells::Driver;
+use cells::cell_at;
+use cells::driver_of;
+use chains::held;
 
 // At most half of the cells are highest drivers: each has a control cell of its own, and that is no
 // driver.

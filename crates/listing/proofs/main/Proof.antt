@@ -2,7 +2,7 @@
 use native.Mathlib.Omega.{arith}
 use borrow.Author.Needs.{needs}
 use Rattle.rules.specs.Refusals.{mostCells, mostNets}
-use Rattle.board.proofs.Blanks.{blank}
+use Rattle.chains.proofs.Blanks.{blank}
 use Rattle.listing.proofs.main.Statement.{statement}
 use Rattle.listing.proofs.main.Tie as tie
 

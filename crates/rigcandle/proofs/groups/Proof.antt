@@ -1,7 +1,7 @@
 -- The function's own tables are blank.
 use borrow.Author.Needs.{needs}
 use Rattle.rules.specs.Refusals.{mostCells, mostNets}
-use Rattle.board.proofs.Blanks.{blank}
+use Rattle.chains.proofs.Blanks.{blank}
 use Rattle.rigcandle.proofs.groups.Statement.{statement}
 use Rattle.rigcandle.proofs.groups.Tie as tie
 

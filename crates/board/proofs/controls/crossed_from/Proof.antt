@@ -3,7 +3,7 @@ use mathlib.Core.Path.{sym, _∙_}
 use native.Mathlib.Omega.{arith}
 use borrow.Author.Needs.{needs}
 use Rattle.rules.specs.File.{boardOf}
-use Rattle.board.proofs.Walks.{cell-in, head-low, none-keyed}
+use Rattle.chains.proofs.Walks.{cell-in, head-low, none-keyed}
 use Rattle.board.proofs.Crossings.{idle-none, crossed-idle, from-none, twin-clear, twin-covered, walked-here, walked-past, passed-twin}
 use Rattle.board.proofs.controls.crossed_from.Statement.{statement}
 use Rattle.board.proofs.controls.crossed_from.Tie as tie

@@ -5,7 +5,7 @@ use native.Mathlib.Omega.{arith}
 use borrow.Author.Needs.{needs}
 use Rattle.rules.specs.File.{boardOf}
 use Rattle.rules.proofs.Shape.{laid, shaped}
-use Rattle.board.specs.Chains.{keysOf}
+use Rattle.chains.specs.Chains.{keysOf}
 use Rattle.board.specs.Controls.{Walked}
 use Rattle.board.proofs.Crossings.{walked-none, walked-idle, judged-at, judged-none}
 use Rattle.board.proofs.controls.crossed_verdict.Statement.{statement}

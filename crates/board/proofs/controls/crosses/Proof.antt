@@ -6,7 +6,7 @@ use borrow.Author.Needs.{needs}
 use Rattle.rules.specs.File.{boardOf}
 use Rattle.rules.proofs.Shape.{laid, shaped}
 use Rattle.words.specs.Sets.{member}
-use Rattle.board.specs.Sharing.{partnersOf}
+use Rattle.chains.specs.Sharing.{partnersOf}
 use Rattle.board.proofs.ControlChecks.{Uncrossed, crosses-is, search-from, search-on, search-found, search-ended}
 use Rattle.board.proofs.controls.crosses.Statement.{statement}
 use Rattle.board.proofs.controls.crosses.Tie as tie

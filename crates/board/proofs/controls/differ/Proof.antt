@@ -9,12 +9,12 @@ use lib.Dec.{eqb}
 use lib.ListN.{getD}
 use Rattle.rules.specs.File.{Board, boardOf, cellsOf}
 use Rattle.rules.proofs.Tests.{left, both, not-fails}
-use Rattle.board.specs.Chains.{ControlCell, keyed, Chains}
+use Rattle.chains.specs.Chains.{ControlCell, keyed, Chains}
 use Rattle.board.specs.Controls.{driversAt}
-use Rattle.board.proofs.Chaining.{Walking}
-use Rattle.board.proofs.Walks.{cell-in, head-low, link-low, from-head, step, on-chain, hit, missed, none-keyed}
+use Rattle.chains.proofs.Chaining.{Walking}
+use Rattle.chains.proofs.Walks.{cell-in, head-low, link-low, from-head, step, on-chain, hit, missed, none-keyed}
 use Rattle.board.proofs.ControlChecks.{unequal-by, unequal-empty}
-use Rattle.board.proofs.Brought.{keyed-controlled}
+use Rattle.chains.proofs.Brought.{keyed-controlled}
 use Rattle.board.proofs.controls.differ.Statement.{statement}
 use Rattle.board.proofs.controls.differ.Tie as tie
 

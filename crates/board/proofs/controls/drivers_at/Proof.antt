@@ -10,7 +10,7 @@ use Rattle.rules.specs.Drivers.{controlled, drivers}
 use Rattle.rules.proofs.Tests.{or-left}
 use Rattle.rules.proofs.Shape.{whole-records}
 use Rattle.rules.proofs.Acceptance.{kept-net}
-use Rattle.board.specs.Driving.{Counted}
+use Rattle.chains.specs.Counts.{Counted}
 use Rattle.board.specs.Controls.{driversAt}
 use Rattle.board.proofs.controls.drivers_at.Statement.{statement}
 use Rattle.board.proofs.controls.drivers_at.Tie as tie

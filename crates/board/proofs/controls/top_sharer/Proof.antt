@@ -1,9 +1,8 @@
 -- Each answer is a position of the board: c itself, or a driver's control cell.
 use native.Mathlib.Omega.{arith}
 use borrow.Author.Needs.{needs}
-use Rattle.board.proofs.Walks.{net-in, head-low}
-use Rattle.board.proofs.Drives.{net-below, control-below}
-use Rattle.board.proofs.Sets.{driver-is}
+use Rattle.chains.proofs.Walks.{net-in, head-low}
+use Rattle.cells.proofs.DrivenLaws.{net-below, control-below, driver-is}
 use Rattle.board.proofs.controls.top_sharer.Statement.{statement}
 use Rattle.board.proofs.controls.top_sharer.Tie as tie
 

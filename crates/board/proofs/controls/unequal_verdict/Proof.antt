@@ -11,9 +11,9 @@ use Rattle.rules.specs.Refusals.{unequal}
 use Rattle.rules.proofs.Shape.{laid, shaped}
 use Rattle.rules.proofs.Searching.{Searched, search-start, search-next, found, ended}
 use Rattle.rules.proofs.Tests.{order}
-use Rattle.board.specs.Chains.{ControlCell, Chains, keysOf}
+use Rattle.chains.specs.Chains.{ControlCell, Chains, keysOf}
 use Rattle.board.specs.Controls.{Idle}
-use Rattle.board.proofs.Walks.{cell-in, none-keyed}
+use Rattle.chains.proofs.Walks.{cell-in, none-keyed}
 use Rattle.board.proofs.ControlChecks.{unequal-empty}
 use Rattle.board.proofs.controls.unequal_verdict.Statement.{statement}
 use Rattle.board.proofs.controls.unequal_verdict.Tie as tie

@@ -8,10 +8,11 @@ use Rattle.rules.specs.File.{Board, boardOf}
 use Rattle.rules.specs.Drivers.{outputOf}
 use Rattle.rules.specs.declared.Cell.{Cell}
 use Rattle.rules.proofs.Tests.{left}
-use Rattle.board.specs.Chains.{NetOf, keyed}
-use Rattle.board.specs.Driving.{driverIn, conflictOf, conflictAt}
-use Rattle.board.proofs.Chaining.{Walking, keyed-net}
-use Rattle.board.proofs.Walks.{link-low, from-link, step, on-chain, hit, missed}
+use Rattle.chains.specs.Chains.{NetOf, keyed}
+use Rattle.cells.specs.Driven.{driverIn}
+use Rattle.board.specs.Nets.{conflictOf, conflictAt}
+use Rattle.chains.proofs.Chaining.{Walking, keyed-net}
+use Rattle.chains.proofs.Walks.{link-low, from-link, step, on-chain, hit, missed}
 use Rattle.board.proofs.nets.clash_below.Statement.{statement}
 use Rattle.board.proofs.nets.clash_below.Tie as tie
 

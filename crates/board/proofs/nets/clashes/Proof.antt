@@ -9,11 +9,11 @@ use Rattle.rules.specs.File.{Board, boardOf, cellsOf}
 use Rattle.rules.specs.Drivers.{outputOf}
 use Rattle.rules.specs.Refusals.{clashing}
 use Rattle.rules.proofs.Tests.{left}
-use Rattle.board.specs.Chains.{NetOf, keyed}
-use Rattle.board.specs.Driving.{conflictAt}
-use Rattle.board.proofs.Chaining.{Walking, keyed-net}
+use Rattle.chains.specs.Chains.{NetOf, keyed}
+use Rattle.board.specs.Nets.{conflictAt}
+use Rattle.chains.proofs.Chaining.{Walking, keyed-net}
 use Rattle.board.proofs.Clashing.{atOdds, clashing-odds}
-use Rattle.board.proofs.Walks.{net-in, head-low, link-low, from-head, step, on-chain, hit, missed}
+use Rattle.chains.proofs.Walks.{net-in, head-low, link-low, from-head, step, on-chain, hit, missed}
 use Rattle.board.proofs.nets.clashes.Statement.{statement}
 use Rattle.board.proofs.nets.clashes.Tie as tie
 

@@ -1,7 +1,7 @@
 -- The definition, case by case.
 use borrow.Author.Needs.{needs}
-use Rattle.board.specs.Driving.{controlIn}
-use Rattle.board.proofs.Sets.{driver-is}
+use Rattle.board.specs.Nets.{controlIn}
+use Rattle.cells.proofs.DrivenLaws.{driver-is}
 use Rattle.board.proofs.nets.control_of.Statement.{statement}
 use Rattle.board.proofs.nets.control_of.Tie as tie
 

@@ -3,8 +3,8 @@ use Prim.Native.Nat.{_-_}
 use mathlib.Core.Bool.{false≢true}
 use native.Mathlib.Omega.{arith}
 use Rattle.rules.specs.File.{boardOf, cellsOf}
-use Rattle.board.specs.Chains.{NetOf, keyed}
-use Rattle.board.proofs.Walks.{net-in, link-low}
+use Rattle.chains.specs.Chains.{NetOf, keyed}
+use Rattle.chains.proofs.Walks.{net-in, link-low}
 use Rattle.board.proofs.Falling.{Fallen, rankOf, falling-start, falling-next, falling-clear}
 use Rattle.board.proofs.nets.falls.Statement.{statement}
 use Rattle.board.proofs.nets.falls.Tie as tie

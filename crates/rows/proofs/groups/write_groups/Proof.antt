@@ -1,6 +1,6 @@
 -- The function's own table has room for the highest drivers.
 use borrow.Author.Needs.{needs}
-use Rattle.board.proofs.Blanks.{blank}
+use Rattle.chains.proofs.Blanks.{blank}
 use Rattle.select.specs.Highest.{mostHighest}
 use Rattle.select.proofs.Highest.{heads-of}
 use Rattle.rows.proofs.groups.write_groups.Statement.{statement}

@@ -10,7 +10,7 @@ use Rattle.rules.specs.declared.Cell.{Cell}
 use Rattle.rules.proofs.Shape.{laid, shaped}
 use Rattle.words.specs.Sets.{netWords, cellWords}
 use Rattle.words.proofs.Choosing.{plus-passes, plus-fails}
-use Rattle.board.specs.Whole.{Whole}
+use Rattle.cells.specs.Whole.{Whole}
 use Rattle.rows.specs.Bits.{bitOf, bitAt, outNet}
 use Rattle.rows.proofs.Lit.{out-net-low}
 use Rattle.rows.proofs.vectors.add_bit.Statement.{statement}

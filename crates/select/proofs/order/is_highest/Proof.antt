@@ -1,8 +1,7 @@
 -- What the cell is decides, and for a driver its control cell's head.
 use native.Mathlib.Omega.{arith}
 use borrow.Author.Needs.{needs}
-use Rattle.board.proofs.Drives.{control-below}
-use Rattle.board.proofs.Sets.{driver-is}
+use Rattle.cells.proofs.DrivenLaws.{control-below, driver-is}
 use Rattle.rules.proofs.Shape.{laid, shaped}
 use Rattle.select.proofs.Highest.{highest-none, highest-told}
 use Rattle.select.proofs.order.is_highest.Statement.{statement}

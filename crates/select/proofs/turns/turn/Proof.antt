@@ -1,8 +1,8 @@
 -- Each way out is one case of the position's test (turn-none to turn-joins).
 use mathlib.Core.Path.{sym, _∙_}
 use borrow.Author.Needs.{needs}
-use Rattle.board.proofs.Drives.{net-below, control-below}
-use Rattle.board.proofs.Sets.{driver-is, net-fits, control-fits}
+use Rattle.cells.proofs.DrivenLaws.{net-below, control-below, driver-is}
+use Rattle.chains.proofs.SharingLaws.{net-fits, control-fits}
 use Rattle.select.proofs.Largest.{count-in}
 use Rattle.select.proofs.Passing.{holds-same, turn-none, turn-unwanted, turn-barred, turn-marked, turn-joins, wanted-told, marked-told, reached-told}
 use Rattle.select.proofs.turns.turn.Statement.{statement}

@@ -1,6 +1,0 @@
--- The definition, by the test.
-use Rattle.board.proofs.cells.means.Statement.{statement}
-use Rattle.board.proofs.cells.means.Tie as tie
-
-pub means-spec : {M : Type 1} → statement M
-means-spec = tie.close (tie.spec (λ c. rw (c .if1 .taken)) (λ c. rw (c .if1 .left)))

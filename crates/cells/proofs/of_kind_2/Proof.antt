@@ -1,0 +1,47 @@
+-- Below C the record's kind byte decides; past it nothing does.
+use Prim.Native.Nat.{ℕ, _<_, _≤_}
+use mathlib.Core.Path.{_≡_}
+use mathlib.Core.Bool.{false}
+use mathlib.Core.List.{List}
+use borrow.Author.Tests.{lt-ltb, le-ltb}
+use native.Mathlib.Omega.{arith}
+use lib.Dec.{eqb}
+use lib.ListN.{getD}
+use Rattle.rules.specs.File.{cellsOf, recordAt, ofKind2, kindAt, byteAt}
+use Rattle.cells.proofs.InRecord.{inside, few}
+use Rattle.cells.proofs.of_kind_2.Statement.{statement}
+use Rattle.cells.proofs.of_kind_2.Tie as tie
+
+below : (file : List ℕ) (cells k at : ℕ) → cells ≡ cellsOf file → k < cells → at ≡ recordAt k → eqb (getD file at 0) 2 ≡ ofKind2 file k
+unfolding ofKind2 kindAt byteAt
+below file cells k at e l a = rw (a, ← e, lt-ltb k cells l)
+
+past : (file : List ℕ) (cells k : ℕ) → cells ≡ cellsOf file → cells ≤ k → false ≡ ofKind2 file k
+unfolding ofKind2
+past file cells k e l = rw (← e, le-ltb k cells l)
+
+record-start-requires : tie.Need-record-start-requires
+record-start-requires c κs =
+    let pre = c .before .before .pre in
+    let e = pre .1 in
+    let l = c .if1 .taken in
+    let f = few _ (c .before .before .args .k) (pre .0) (omega arith) in
+    omega arith
+
+shared-slice-read-result : tie.Need-shared-slice-read-result
+shared-slice-read-result c =
+    let pre = c .before .before .before .before .pre in
+    let e = pre .1 in
+    let l = c .before .before .if1 .taken in
+    let h = inside _ _ _ (pre .0) (omega arith) (c .before .record-start .ensures) in
+    omega arith
+
+returns : tie.Need-returns
+returns c =
+    below _ _ _ _ (c .before .before .before .before .pre .1) (c .before .before .if1 .taken) (c .before .record-start .ensures)
+
+returns-2 : tie.Need-returns-2
+returns-2 c = past _ _ _ (c .before .before .pre .1) (c .if1 .left)
+
+pub of-kind-2-spec : {M : Type 1} → statement M
+of-kind-2-spec = tie.close (tie.spec record-start-requires shared-slice-read-result returns returns-2)

@@ -1,0 +1,3 @@
+-- What a reader of records may assume, and what a cell drives.
+pub mod Whole
+pub mod Driven

@@ -1,0 +1,194 @@
+// Records and cells: what stands at a position of the board file, what the cell there drives, and
+// refusal 6.
+ghost use mathlib.Core.Path.{_≡_};
+ghost use Prim.Native.Nat.{_<_, _/_};
+ghost use mathlib.Core.List.{_∷_, []};
+ghost use Rattle.rules.specs.File.{recordAt, ofKind2, recordOf, brokenAt, boardOf, cellsOf, blockRecords, tableOf, netOf};
+ghost use Rattle.rules.specs.Refusals.{judge, each, mostCells};
+ghost use Rattle.rules.specs.File as File;
+ghost use mathlib.Core.Bool.{_&&_};
+ghost use Rattle.cells.specs.Driven.{driverIn};
+ghost use Rattle.cells.specs.Whole.{Shaped, Sized, Whole};
+use blocks::BLOCK_RECORDS;
+use blocks::BLOCK_SIZE;
+use blocks::HEAD_SIZE;
+use blocks::RECORD_SIZE;
+use rules::Cell;
+use rules::Net;
+use rules::Position;
+use rules::Record;
+use rules::Verdict;
+
+// "65,535 means none"
+const NONE: u16 = 65535;
+
+// Where the record of position 0 begins, and the bytes of a block that are not of its 84 records.
+const FIRST_RECORD: usize = BLOCK_SIZE + HEAD_SIZE;
+
+const SPARE_BYTES: usize = BLOCK_SIZE - RECORD_SIZE * BLOCK_RECORDS;
+
+// 1,561 / 131,072 is 1 / 84, and so little more that below 1,024 no position comes into the next block.
+const NEAR_84TH: usize = 1561;
+
+const NEAR_84TH_OF: usize = 131072;
+
+// A controlled driver with its control cell and its net, or something else.
+pub enum Driver {
+    Of(Position, Net),
+    Nothing,
+}
+
+// The block of cells of position p, counted from 0: p / 84 by one product, since every record read asks for it.
+fn block_of(p: usize) -> usize
+    requires { ⌜ p < mostCells ⌝ }
+    ensures { λ r. ⌜ r ≡ p / blockRecords ⌝ }
+{
+    p * NEAR_84TH / NEAR_84TH_OF
+}
+
+// Where the record of position p begins: records follow each other, but for the spare bytes of the blocks between.
+fn record_start(p: usize) -> usize
+    requires { ⌜ p < mostCells ⌝ }
+    ensures { λ r. ⌜ r ≡ recordAt p ⌝ }
+{
+    FIRST_RECORD + RECORD_SIZE * p + SPARE_BYTES * block_of(p)
+}
+
+// k is the position of a kind 2 cell.
+fn of_kind_2(file: &[u8], cells: usize, k: u16) -> bool
+    requires { ⌜ Shaped (now file) ⌝ }
+    requires { ⌜ cells ≡ cellsOf (now file) ⌝ }
+    ensures { λ r. ⌜ r ≡ ofKind2 (now (file .entry)) k ⌝ }
+{
+    let p = k as usize;
+    if p < cells {
+        let at = record_start(p);
+        return file[at] == 2;
+    }
+    false
+}
+
+// All three columns are as the table has them.
+fn columns(on: bool, control: bool, net: bool) -> bool
+    ensures { λ r. ⌜ r ≡ (on && control && net) ⌝ }
+{
+    if on {
+        if control {
+            return net;
+        }
+    }
+    false
+}
+
+// The cell, where the columns are as the table has them.
+fn means(fits: bool, cell: Cell) -> Record
+    ensures { λ r. ⌜ r ≡ File.means fits cell ⌝ }
+{
+    if fits {
+        return Record::Means(cell);
+    }
+    Record::Broken
+}
+
+// The table of cell kinds: what a record with these columns means.
+fn table(kind: u8, on: u8, control: u16, net: u16, switched: bool, connected: bool) -> Record
+    ensures { λ r. ⌜ r ≡ tableOf kind on control net switched connected ⌝ }
+{
+    match kind {
+        0 => means(
+            columns(on == 0, control == NONE, net == NONE),
+            Cell::Internal,
+        ),
+        1 => means(
+            columns(on == 0, control == NONE, connected),
+            Cell::Input(Net(net)),
+        ),
+        2 => means(
+            columns(on < 2, control == NONE, net == NONE),
+            Cell::Control(on == 1),
+        ),
+        3 => means(
+            columns(on == 0, switched, connected),
+            Cell::ThreeState(Position(control), Net(net)),
+        ),
+        4 => means(
+            columns(on == 0, control == NONE, connected),
+            Cell::TwoState(Net(net)),
+        ),
+        _ => Record::Broken,
+    }
+}
+
+// What the record at position p means.
+fn record_of(file: &[u8], cells: usize, nets: usize, p: usize) -> Record
+    requires { ⌜ Shaped (now file) ⌝ }
+    requires { ⌜ Sized (now file) cells nets ⌝ }
+    requires { ⌜ p < cells ⌝ }
+    ensures { λ r. ⌜ r ≡ recordOf (now (file .entry)) p ⌝ }
+{
+    let at = record_start(p);
+    let kind = file[at];
+    let on = file[at + 1];
+    let control = blocks::pair(file, at + 2);
+    let net = blocks::pair(file, at + 4);
+    let switched = of_kind_2(file, cells, control);
+    let connected = (net as usize) < nets;
+    table(kind, on, control, net, switched, connected)
+}
+
+// Refusal 6: a record breaks the table, at the lowest position.
+pub fn records_verdict(file: &[u8], cells: usize, nets: usize) -> Verdict
+    requires { ⌜ Shaped (now file) ⌝ }
+    requires { ⌜ Sized (now file) cells nets ⌝ }
+    ensures { λ r. ⌜ r ≡ judge (each 6 (cellsOf (now (file .entry))) (brokenAt (now (file .entry))) ∷ []) ⌝ }
+{
+    let mut p = 0;
+    while p < cells {
+        let record = record_of(file, cells, nets, p);
+        let Record::Means(_) = record else {
+            return blocks::refuse(6, p);
+        };
+        p += 1;
+    }
+    Verdict::Accepted
+}
+
+// The cell at position p of a whole file: no record of it is broken.
+pub fn cell_at(file: &[u8], p: usize) -> Cell
+    requires { ⌜ Whole (now file) p ⌝ }
+    ensures { λ r. ⌜ r ≡ boardOf (now (file .entry)) .cell p ⌝ }
+{
+    let at = record_start(p);
+    let kind = file[at];
+    match kind {
+        1 => Cell::Input(Net(blocks::pair(file, at + 4))),
+        2 => Cell::Control(file[at + 1] == 1),
+        3 => Cell::ThreeState(
+            Position(blocks::pair(file, at + 2)),
+            Net(blocks::pair(file, at + 4)),
+        ),
+        4 => Cell::TwoState(Net(blocks::pair(file, at + 4))),
+        _ => Cell::Internal,
+    }
+}
+
+// The net at position p of a whole file, or 65,535: what a walk along drivers needs of their records.
+pub fn net_at(file: &[u8], p: usize) -> usize
+    requires { ⌜ Whole (now file) p ⌝ }
+    ensures { λ r. ⌜ r ≡ netOf (boardOf (now (file .entry)) .cell p) ⌝ }
+{
+    blocks::pair(file, record_start(p) + 4) as usize
+}
+
+// The controlled driver that a cell is.
+pub fn driver_of(cell: Cell) -> Driver
+    ensures { λ r. ⌜ r ≡ driverIn cell ⌝ }
+{
+    match cell {
+        Cell::Internal => Driver::Nothing,
+        Cell::Input(_) => Driver::Nothing,
+        Cell::Control(_) => Driver::Nothing,
+        Cell::ThreeState(k, n) => Driver::Of(k, n),
+        Cell::TwoState(_) => Driver::Nothing,
+    }
+}

@@ -1,0 +1,201 @@
+-- Laws of chains: what `last` gives, and what one more output does to a head and a link.
+use Prim.Native.Nat.{ℕ, zero, suc, _+_, _<_, _≤_}
+use mathlib.Core.Path.{_≡_, refl, sym, _∙_}
+use mathlib.Core.Logic.{_⊎_, ⊎-elim}
+use mathlib.Core.Bool.{Bool, true, false, cond, _&&_, _||_, false≢true, and-true, and-false}
+use mathlib.Core.List.{List}
+use native.Mathlib.Numerals.{add-one}
+use native.Mathlib.Omega.{arith}
+use borrow.Author.Tests.{eqb-true, eq-eqb}
+use lib.Dec.{eqb}
+use lib.ListN.{length, getD, set, length-set}
+use lib.Seq.{getD-set-same, getD-set-other}
+use Rattle.rules.specs.Basics.{any}
+use Rattle.rules.specs.File.{Board, boardOf, cellsOf, kindOf, controlOf, netOf, brokenAt}
+use Rattle.rules.specs.Drivers.{controlled, controlFor, alwaysOn, onNet, outputOf}
+use Rattle.rules.specs.Refusals.{judge, fileChecks}
+use Rattle.rules.specs.declared.Cell.{Cell}
+use Rattle.rules.specs.declared.Cell.the-variants.{Internal, Input, Control, ThreeState, TwoState}
+use Rattle.rules.specs.declared.Verdict.the-variants.{Accepted}
+use Rattle.rules.proofs.Shape.{whole-records}
+use Rattle.rules.proofs.Acceptance.{kept-control, kept-net}
+use Rattle.rules.proofs.Tests.{decided, fails-if, clashes, below-suc}
+use Rattle.chains.specs.Chains.{By, ControlCell, NetOf, last, keyOf, isKey, keyed, keysOf, Linked}
+use Rattle.chains.specs.declared.Key.the-variants.{Of, Nothing}
+
+-- one more number: it is the last where it passes, else the last stays
+pub last-passes : (n : ℕ) (p : ℕ → Bool) → p n ≡ true → last (suc n) p ≡ suc n
+unfolding last
+last-passes n p h = rw h
+
+pub last-fails : (n : ℕ) (p : ℕ → Bool) → p n ≡ false → last (suc n) p ≡ last n p
+unfolding last
+last-fails n p h = rw h
+
+pub last-le : (n : ℕ) (p : ℕ → Bool) → last n p ≤ n
+unfolding last
+last-le zero p = omega arith
+last-le (suc n) p = go (p n) (last-le n p)
+  where
+    go : (a : Bool) → last n p ≤ n → cond a (suc n) (last n p) ≤ suc n
+    go true l = omega arith
+    go false l = omega arith
+
+-- what it gives passes
+pub last-member : (n : ℕ) (p : ℕ → Bool) (c : ℕ) → last n p ≡ suc c → p c ≡ true
+unfolding last
+last-member zero p c e = absurd (omega arith)
+last-member (suc n) p c e = go (p n) refl e (last-member n p c)
+  where
+    go : (a : Bool) → p n ≡ a → cond a (suc n) (last n p) ≡ suc c → (last n p ≡ suc c → p c ≡ true) → p c ≡ true
+    go true h q r = let s : n ≡ c = omega arith in rw s at h
+    go false h q r = r q
+
+-- and nothing above it does
+pub last-above : (n : ℕ) (p : ℕ → Bool) (c : ℕ) → last n p ≤ c → c < n → p c ≡ false
+unfolding last
+last-above zero p c l m = absurd (omega arith)
+last-above (suc n) p c l m = go (p n) refl l (last-above n p c)
+  where
+    go : (a : Bool) → p n ≡ a → cond a (suc n) (last n p) ≤ c → (last n p ≤ c → c < n → p c ≡ false) → p c ≡ false
+    go true e h r = absurd (omega arith)
+    go false e h r = ⊎-elim (λ (q : c ≡ n). rw q e) (λ (q : c < n). r h q) (below-suc m)
+
+-- for a test that passes only where p does, some number below n is some number below the last
+pub any-last : (n : ℕ) (p q : ℕ → Bool) → ((c : ℕ) → c < n → q c ≡ true → p c ≡ true) → any n q ≡ any (last n p) q
+unfolding last any
+any-last zero p q h = refl
+any-last (suc n) p q h = go (p n) refl (any-last n p q (λ c l. h c (omega arith)))
+  where
+    go : (a : Bool) → p n ≡ a → any n q ≡ any (last n p) q → (q n || any n q) ≡ any (cond a (suc n) (last n p)) q
+    go true e r = refl
+    go false e r = rw (fails-if (q n) (λ t. clashes (h n (omega arith) t) e)) r
+
+-- nothing has a key below 0
+pub linked-none : (b : Board) (by : By) (heads links : List ℕ) → ((k : ℕ) → getD heads k 0 ≡ 0) → ((c : ℕ) → getD links c 0 ≡ 0) → Linked b by 0 heads links
+unfolding last
+linked-none b by heads links h k =
+    record { head = λ i l. h i; link = λ c i l. absurd (omega arith); low = λ c. let z = k c in omega arith }
+
+module _ (b : Board) (by : By) (c : ℕ) (heads links : List ℕ) (so-far : Linked b by c heads links) where
+  -- a cell with no key changes nothing
+  pub linked-skip : keyOf by (b .cell c) ≡ Nothing → Linked b by (c + 1) heads links
+  unfolding keyed isKey
+  linked-skip e =
+      rw (add-one c)
+      (record { head = λ k l. so-far .head k l ∙ sym (last-fails c (keyed b by k) (rw e)); link = λ d k l h. ⊎-elim (λ (q : d ≡ c). absurd (false≢true (rw (q, e) at h))) (λ (q : d < c). so-far .link d k q h) (below-suc l); low = so-far .low })
+
+  -- a cell with key x: its link is the old head, the new head is the cell
+  pub linked-add : (x : ℕ) → keyOf by (b .cell c) ≡ Of x → x < length heads → c < length links → Linked b by (c + 1) (set heads x (c + 1)) (set links c (getD heads x 0))
+  unfolding keyed isKey
+  linked-add x e lx lc = rw (add-one c) (record { head = heads-are; link = links-are; low = low-are })
+    where
+      low-are : (d : ℕ) → getD (set links c (getD heads x 0)) d 0 ≤ d
+      low-are d =
+          ⊎-elim
+          (λ (q : eqb d c ≡ true). let s = eqb-true d c q in rw (s, getD-set-same links c (getD heads x 0) 0 lc, so-far .head x lx) (last-le c (keyed b by x)))
+          (λ (q : eqb d c ≡ false). rw (getD-set-other links c d (getD heads x 0) 0 (λ s. clashes (eq-eqb d c s) q)) (so-far .low d))
+          (decided (eqb d c))
+
+      keyed-c : (k : ℕ) → keyed b by k c ≡ eqb x k
+      keyed-c k = rw e
+
+      heads-are : (k : ℕ) → k < length (set heads x (suc c)) → getD (set heads x (suc c)) k 0 ≡ last (suc c) (keyed b by k)
+      heads-are k l =
+          ⊎-elim
+          (λ (q : eqb x k ≡ true). let s = eqb-true x k q in rw (← s) (getD-set-same heads x (suc c) 0 lx) ∙ sym (last-passes c (keyed b by k) (keyed-c k ∙ q)))
+          (λ (q : eqb x k ≡ false). getD-set-other heads x k (suc c) 0 (λ s. clashes (eq-eqb x k (sym s)) q) ∙ so-far .head k (rw length-set at l) ∙ sym (last-fails c (keyed b by k) (keyed-c k ∙ q)))
+          (decided (eqb x k))
+
+      links-are : (d k : ℕ) → d < suc c → keyed b by k d ≡ true → getD (set links c (getD heads x 0)) d 0 ≡ last d (keyed b by k)
+      links-are d k l h =
+          ⊎-elim
+          (λ (q : d ≡ c). let s = eqb-true x k (sym (keyed-c k) ∙ (rw q at h)) in rw (q, ← s) (getD-set-same links c (getD heads x 0) 0 lc ∙ so-far .head x lx))
+          (λ (q : d < c). getD-set-other links c d (getD heads x 0) 0 (λ s. omega arith) ∙ so-far .link d k q h)
+          (below-suc l)
+
+-- a key of a whole file is one of its control cells or nets
+pub key-below : (file : List ℕ) → judge (fileChecks file) ≡ Accepted → (by : By) (c x : ℕ) → c < cellsOf file → keyOf by (boardOf file .cell c) ≡ Of x → x < keysOf file by
+unfolding keyOf keysOf controlled controlFor alwaysOn kindOf controlOf netOf boardOf
+key-below file ok by c x l e = go by (boardOf file .cell c) refl e
+  where
+    whole : (p : ℕ) → p < cellsOf file → brokenAt file p ≡ false
+    whole = whole-records file ok
+
+    of : (y : ℕ) → Of y ≡ Of x → y ≡ x
+    of y q = cc
+
+    never : Nothing ≡ Of x → ⊥
+    never q = let z : _≡_ {A = ℕ} 0 1 = cc in omega arith
+
+    go : (by : By) (cell : Cell) → boardOf file .cell c ≡ cell → keyOf by cell ≡ Of x → x < keysOf file by
+    go ControlCell Internal q h = absurd (never h)
+    go ControlCell (Input n) q h = absurd (never h)
+    go ControlCell (Control on) q h = absurd (never h)
+    go ControlCell (ThreeState k n) q h = rw (← of (k .0) h) (rw q at (kept-control file whole c l (rw q refl) .0))
+    go ControlCell (TwoState n) q h = absurd (never h)
+    go NetOf Internal q h = absurd (never h)
+    go NetOf (Input n) q h = absurd (never h)
+    go NetOf (Control on) q h = absurd (never h)
+    go NetOf (ThreeState k n) q h = rw (← of (n .0) h) (rw q at (kept-net file whole c l (rw q refl)))
+    go NetOf (TwoState n) q h = rw (← of (n .0) h) (rw q at (kept-net file whole c l (rw q refl)))
+
+-- a walk along a chain, looking for a member that passes q: nothing above `at` has
+pub record Walking (p q : ℕ → Bool) (n at : ℕ) : Type 0 where
+  pub top : last at p ≡ at
+  pub under : at ≤ n
+  pub left : any n q ≡ any at q
+
+pub last-again : (n : ℕ) (p : ℕ → Bool) → last (last n p) p ≡ last n p
+unfolding last
+last-again zero p = refl
+last-again (suc n) p = go (p n) refl (last-again n p)
+  where
+    go : (a : Bool) → p n ≡ a → last (last n p) p ≡ last n p → last (cond a (suc n) (last n p)) p ≡ cond a (suc n) (last n p)
+    go true e r = rw e
+    go false e r = r
+
+module _ (p q : ℕ → Bool) (only : (c : ℕ) → q c ≡ true → p c ≡ true) where
+  pub walk-start : (n at : ℕ) → at ≡ last n p → Walking p q n at
+  walk-start n at e =
+      rw e (record { top = last-again n p; under = last-le n p; left = any-last n p q (λ c l. only c) })
+
+  pub walk-next : (n c at : ℕ) → Walking p q n (suc c) → q c ≡ false → at ≡ last c p → Walking p q n at
+  unfolding any
+  walk-next n c at w f e =
+      let s = walk-start c at e in
+      record { top = s .top; under = (let a = s .under in let b = w .under in omega arith); left = w .left ∙ rw f (s .left) }
+
+  pub walk-found : (n c : ℕ) → Walking p q n (suc c) → q c ≡ true → any n q ≡ true
+  unfolding any
+  walk-found n c w t = w .left ∙ rw t
+
+  pub walk-ended : (n : ℕ) → Walking p q n 0 → any n q ≡ false
+  unfolding any
+  walk-ended n w = w .left
+
+  pub walk-member : (n c : ℕ) → Walking p q n (suc c) → p c ≡ true
+  walk-member n c w = last-member (suc c) p c (w .top)
+
+-- what the two keys are
+pub keyed-net : (b : Board) (n c : ℕ) → keyed b NetOf n c ≡ outputOf b n c
+unfolding keyed keyOf isKey outputOf onNet controlled alwaysOn kindOf netOf
+keyed-net b n c = go (b .cell c)
+  where
+    go : (cell : Cell) → isKey (keyOf NetOf cell) n ≡ (eqb (netOf cell) n && (eqb (kindOf cell) 3 || eqb (kindOf cell) 4))
+    go Internal = sym (and-false (eqb (netOf Internal) n))
+    go (Input m) = sym (and-false (eqb (m .0) n))
+    go (Control on) = sym (and-false (eqb (netOf (Control on)) n))
+    go (ThreeState k m) = sym (and-true (eqb (m .0) n))
+    go (TwoState m) = sym (and-true (eqb (m .0) n))
+
+pub keyed-control : (b : Board) (k c : ℕ) → keyed b ControlCell k c ≡ (controlled b c && eqb (controlFor b c) k)
+unfolding keyed keyOf isKey controlled controlFor kindOf controlOf
+keyed-control b k c = go (b .cell c)
+  where
+    go : (cell : Cell) → isKey (keyOf ControlCell cell) k ≡ (eqb (kindOf cell) 3 && eqb (controlOf cell) k)
+    go Internal = refl
+    go (Input m) = refl
+    go (Control on) = refl
+    go (ThreeState j m) = refl
+    go (TwoState m) = refl

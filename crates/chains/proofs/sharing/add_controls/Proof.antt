@@ -1,0 +1,66 @@
+-- A walk along n's chain that gathers the control cells of its drivers.
+use Prim.Native.Nat.{ℕ, _-_, _≤_}
+use mathlib.Core.Path.{_∙_, ap}
+use mathlib.Core.Bool.{Bool}
+use native.Mathlib.Omega.{arith}
+use Rattle.rules.specs.File.{boardOf, cellsOf}
+use Rattle.words.specs.Sets.{member}
+use Rattle.chains.specs.Chains.{NetOf, keyed}
+use Rattle.chains.proofs.Walks.{net-in, head-low, link-low}
+use Rattle.chains.proofs.Gathering.{Gathered, gather-start, gather-on, gather-next, gather-ended}
+use Rattle.chains.proofs.Brought.{bringsAbove, brings-net, control-grown, all-controls}
+use Rattle.chains.proofs.sharing.add_controls.Statement.{statement}
+use Rattle.chains.proofs.sharing.add_controls.Tie as tie
+
+abbrev Inv-loop : tie.InvT-loop
+Inv-loop file heads links n low more₀ at₀ more at =
+    (at ≤ cellsOf file) × Gathered (keyed (boardOf file) NetOf n) (bringsAbove (boardOf file) low n) (member (more₀ .words)) (member (more .words)) (cellsOf file) at
+
+abbrev μ-loop : tie.MeasureT-loop
+μ-loop file heads links n low more₀ at₀ more at = at
+
+loop-holds : tie.Need-loop-holds Inv-loop μ-loop
+loop-holds c =
+    let p = c .before .before .before .before .pre in
+    let l = net-in _ _ _ _ (p .0) (p .1) in
+    ((let h = head-low _ _ _ _ (p .0) _ l in let e = c .held .ensures in omega arith), gather-start _ _ _ _ (p .0) _ _ (brings-net _ _ _) l _ _ (c .held .ensures))
+
+add-control-requires : tie.Need-add-control-requires Inv-loop μ-loop
+add-control-requires c κs =
+    let i = c .before .loop .inv .0 in
+    let t = c .loop-test .taken in
+    record { checked = c .before .before .before .before .before .before .pre .0 .checked; below = omega arith }
+
+held-requires-2 : tie.Need-held-requires-2 Inv-loop μ-loop
+held-requires-2 c κs =
+    let r = c .before .before .before .before .before .before .before .pre .0 .cells in
+    let i = c .before .before .loop .inv .0 in
+    let t = c .before .loop-test .taken in
+    omega arith
+
+loop-less : tie.Need-loop-less Inv-loop μ-loop
+loop-less c =
+    let t = c .before .before .loop-test .taken in
+    let e = c .held2 .ensures in
+    let l = link-low _ _ _ _ (c .before .before .before .before .before .before .before .before .pre .0) (c .before .before .before .loop .at - 1) in
+    omega arith
+
+loop-again : tie.Need-loop-again Inv-loop μ-loop
+loop-again c =
+    let ch = c .before .before .before .before .before .before .before .before .pre .0 in
+    let t = c .before .before .loop-test .taken in
+    let inv = c .before .before .before .loop .inv in
+    let e = c .held2 .ensures in
+    let low = link-low _ _ _ _ ch (c .before .before .before .loop .at - 1) in
+    let under = inv .0 in
+    let on = gather-on _ _ _ _ ch _ _ (brings-net _ _ _) _ (inv .1) t in
+    (omega arith, gather-next _ _ _ _ ch _ _ (brings-net _ _ _) _ _ _ (inv .1) t (λ j. ap (λ (f : ℕ → Bool). f j) (c .before .add-control .ensures) ∙ control-grown _ _ _ _ _ on j) e)
+
+returns : tie.Need-returns Inv-loop μ-loop
+returns c =
+    all-controls _ _ _ _ _ (gather-ended _ _ _ _ (c .before .before .before .before .before .before .pre .0) _ _ (brings-net _ _ _) _ (c .before .loop .inv .1) (c .loop-test .left))
+
+pub add-controls-spec : {M : Type 1} → statement M
+add-controls-spec =
+    tie.close
+    (tie.spec Inv-loop μ-loop (λ c κs. let p = c .before .before .before .pre in net-in _ _ _ _ (p .0) (p .1)) loop-holds (λ c. omega arith) add-control-requires (λ c. omega arith) held-requires-2 loop-less loop-again returns)
