@@ -26,10 +26,10 @@ use Rattle.plan.specs.Planning.{PlanOf}
 use Rattle.plan.proofs.Coding.{width-low}
 use Rattle.plan.proofs.Planned.{bases-are, small-plan, total-is, whole-file}
 use Rattle.readings.specs.Readings.{seenAt, valueAt, offAt, readBelow, Entries, Captured, Read}
-use Rattle.judge.specs.declared.marks.Counts.{Counts}
-use Rattle.judge.specs.Judging.{markBy, marksBy, Readings, Counted}
-use Rattle.judge.proofs.Marking.{bytes-few}
-use Rattle.judge.proofs.Tables.{marks-by}
+use Rattle.marks.specs.declared.Counts.{Counts}
+use Rattle.marks.specs.Judging.{markBy, marksBy, Readings, Counted}
+use Rattle.marks.proofs.Marking.{bytes-few}
+use Rattle.marks.proofs.Tables.{marks-by}
 use Rattle.rigcandle.proofs.Answering.{marks-accepted}
 use Rattle.rigcandle.proofs.Bounds.{total-low}
 
@@ -67,7 +67,7 @@ pub no-entries : (cells : ℕ) (table : List ℕ) → cells ≤ mostCells → Ze
 unfolding rowBytes ceil
 no-entries cells table l z = record { long = (let m = z .long in omega arith); low = λ c q. (let e = z .zero-at c in omega arith) }
 
--- the readings as the judge takes them
+-- the readings as the marks are made of them
 pub readings-of : (file : List ℕ) (p : Plan) (capture before after : List ℕ) (cells : ℕ) → judge (boardChecks file) ≡ Accepted → PlanOf (boardOf file) p → cells ≡ cellsOf file → Entries 0 (8 * rowBytes cells) before → Read p capture before cells after → Readings file after
 unfolding boardOf rowBytes ceil
 readings-of file p capture before after cells ok h e z r =

@@ -10,7 +10,7 @@ use crate::packing::marks_bits;
 use crate::packing::verdict_bits;
 use blocks::once;
 use blocks::read_sizes;
-use judge::marks::judge_readings;
+use marks::judge_readings;
 use plan::boards::admit;
 use plan::boards::plan_of;
 use plan::steps::total;

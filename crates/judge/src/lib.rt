@@ -1,2 +1,0 @@
-// Judging: from what the input cells read to the mark of each net.
-pub mod marks;
