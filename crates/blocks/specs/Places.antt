@@ -4,12 +4,8 @@ use mathlib.Core.Path.{_≡_}
 use mathlib.Core.Bool.{false}
 use mathlib.Core.List.{List}
 use lib.ListN.{length}
-use Rattle.rules.specs.File.{blockSize, cellsOf}
+use Rattle.rules.specs.File.{blockSize, cellsOf, mostNumber}
 use Rattle.rules.specs.Refusals.{wrongLength}
-
--- the largest number of two bytes: no place and no C is above it
-abbrev pub mostNumber : ℕ
-mostNumber = 65535
 
 -- block i is whole in the file, and i is a place
 pub record Whole (file : List ℕ) (i : ℕ) : Type 0 where

@@ -6,10 +6,10 @@ ghost use mathlib.Core.Bool.{false, not};
 ghost use mathlib.Core.List.{[], _∷_};
 ghost use Prim.Native.Nat.{_+_, _*_, _^_, _≤_, _<_};
 ghost use lib.ListN.{length};
-ghost use Rattle.rules.specs.File.{blockSize, blockRecords, headSize, numberAt, sumsOf, sumsRight, zeros, headRight, headerRight, recordsIn, cellBlockRight, blocksIn};
-ghost use Rattle.rules.specs.Refusals.{judge, once, each, refuse, wrongLength, within, outside, blocksFor, blockWrong};
+ghost use Rattle.rules.specs.File.{blockSize, blockRecords, headSize, numberAt, mostNumber, sumsOf, sumsRight, zeros, headRight, headerRight, recordsIn, cellBlockRight, blocksIn};
+ghost use Rattle.rules.specs.Refusals.{judge, once, each, wrongLength, within, outside, blocksFor, blockWrong};
 ghost use Rattle.blocks.specs.Reading.{headOf, blockOf, signatureRight, verdictOf, SizesOf};
-ghost use Rattle.blocks.specs.Places.{mostNumber, Whole, CellBlock, AnyBlock, Layout};
+ghost use Rattle.blocks.specs.Places.{Whole, CellBlock, AnyBlock, Layout};
 
 // "Blocks of 512 bytes", the first 508 of them summed.
 pub const BLOCK_SIZE: usize = 512;
@@ -262,34 +262,11 @@ fn outside(file: &[u8]) -> bool
         && within(MOST_LIMIT, sizes.limit))
 }
 
-// A refusal at a place.
-pub fn refuse(number: u8, place: usize) -> rules::Verdict
-    requires { ⌜ place ≤ mostNumber ⌝ }
-    ensures { λ r. ⌜ r ≡ refuse number place ⌝ }
-{
-    rules::Verdict::Refused(rules::Refusal {
-        number,
-        place: place as u16,
-        second: 0,
-    })
-}
-
-// A check that looks at one place, 0.
-pub fn once(number: u8, fails: bool) -> rules::Verdict
-    ensures { λ r. ⌜ r ≡ judge (once number fails ∷ []) ⌝ }
-{
-    if fails {
-        refuse(number, 0)
-    } else {
-        rules::Verdict::Accepted
-    }
-}
-
 // Refusal 1, the file's length.
 pub fn length_verdict(file: &[u8]) -> rules::Verdict
     ensures { λ r. ⌜ r ≡ judge (once 1 (wrongLength (now (file .entry))) ∷ []) ⌝ }
 {
-    once(1, wrong_length(file))
+    rules::once(1, wrong_length(file))
 }
 
 // Refusal 2, the blocks' sums: the lowest block that is refused, as reading it says.
@@ -315,9 +292,9 @@ pub fn header_verdict(file: &[u8]) -> rules::Verdict
     ensures { λ r. ⌜ r ≡ judge (once 3 (not (headerRight (now (file .entry)))) ∷ once 4 (outside (now (file .entry))) ∷ []) ⌝ }
 {
     if header_right(file) {
-        once(4, outside(file))
+        rules::once(4, outside(file))
     } else {
-        refuse(3, 0)
+        rules::refuse(3, 0)
     }
 }
 
@@ -330,7 +307,7 @@ pub fn layout_verdict(file: &[u8], cells: usize) -> rules::Verdict
     let mut i = 0;
     while i < blocks {
         if block_wrong(file, cells, i) {
-            return refuse(5, i);
+            return rules::refuse(5, i);
         }
         i += 1;
     }

@@ -8,11 +8,10 @@ use borrow.Author.Tests.{ne-eqb, le-ltb}
 use lib.Dec.{eqb, ltb}
 use lib.ListN.{length, getD}
 use Rattle.rules.specs.Basics.{any}
-use Rattle.rules.specs.File.{Board, boardOf, cellsOf, netsOf}
+use Rattle.rules.specs.File.{Board, boardOf, cellsOf, netsOf, mostNumber}
 use Rattle.rules.specs.Drivers.{drivers}
 use Rattle.rules.specs.Refusals.{judge, each, undriven, clashing, crowded, mostDrivers, netChecks}
 use Rattle.rules.specs.declared.Verdict.{Verdict}
-use Rattle.blocks.specs.Places.{mostNumber}
 use Rattle.rules.proofs.Tests.{same-test, any-at, any-member}
 use Rattle.rules.proofs.Shape.{laid, shaped}
 use Rattle.rules.proofs.Verdicts.{andThen, Then, judge-then, judge-same}

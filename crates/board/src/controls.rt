@@ -274,7 +274,7 @@ pub(crate) fn crossed_verdict(
     }
     let found = above.found;
     if found < cells {
-        return blocks::refuse(10, found);
+        return rules::refuse(10, found);
     }
     Verdict::Accepted
 }
@@ -338,7 +338,7 @@ pub(crate) fn unequal_verdict(
     let mut k = driven_from(heads, 0, cells);
     while k < cells {
         if differ(file, heads, links, counts, k) {
-            return blocks::refuse(11, k);
+            return rules::refuse(11, k);
         }
         k = driven_from(heads, k + 1, cells);
     }

@@ -46,7 +46,7 @@ fn outside_verdict(number: u8, table: &[u16], low: u16, high: u16, nets: usize) 
     let mut n = 0;
     while n < nets {
         if outside(table[n], low, high) {
-            return blocks::refuse(number, n);
+            return rules::refuse(number, n);
         }
         n += 1;
     }
@@ -156,7 +156,7 @@ fn clash_verdict(file: &[u8], heads: &[u16], links: &[u16], nets: usize) -> Verd
     let mut n = 0;
     while n < nets {
         if net_clashes(file, heads, links, n) {
-            return blocks::refuse(8, n);
+            return rules::refuse(8, n);
         }
         n += 1;
     }

@@ -146,7 +146,7 @@ pub fn records_verdict(file: &[u8], cells: usize, nets: usize) -> Verdict
     while p < cells {
         let record = record_of(file, cells, nets, p);
         let Record::Means(_) = record else {
-            return blocks::refuse(6, p);
+            return rules::refuse(6, p);
         };
         p += 1;
     }

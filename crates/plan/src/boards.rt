@@ -43,7 +43,7 @@ fn count_verdict(plan: Plan) -> Verdict
     requires { ⌜ Small plan ⌝ }
     ensures { λ r. ⌜ r ≡ judge (once 12 (ltb mostVectors (length (stepsOf (basesFor plan)))) ∷ []) ⌝ }
 {
-    blocks::once(12, MOST_VECTORS < total(plan))
+    rules::once(12, MOST_VECTORS < total(plan))
 }
 
 // Refusals 1 to 12, with the tables of an accepted board left in the lent ones, which hold nothing yet.

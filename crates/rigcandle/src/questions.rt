@@ -8,7 +8,6 @@ use crate::packing::count_bits;
 use crate::packing::group_bits;
 use crate::packing::marks_bits;
 use crate::packing::verdict_bits;
-use blocks::once;
 use blocks::read_sizes;
 use marks::judge_readings;
 use plan::boards::admit;
@@ -19,6 +18,7 @@ use rows::bytes::row_bytes;
 use rows::groups::write_groups;
 use rows::vectors::write_vector;
 use rules::Verdict;
+use rules::once;
 
 // The count of an admitted board.
 fn answer_count(file: &[u8], heads: &[u16], links: &[u16], counts: &[u16]) -> u64

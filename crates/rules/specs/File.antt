@@ -40,6 +40,10 @@ byteAt file i = getD file i 0
 unfoldable pub numberAt : List ℕ → ℕ → ℕ
 numberAt file i = byteAt file i + 256 * byteAt file (i + 1)
 
+-- the largest number of two bytes: no place and no C is above it
+abbrev pub mostNumber : ℕ
+mostNumber = 65535
+
 -- "both sums wrapping at 65,536"
 abbrev pub wrapped : ℕ → ℕ
 wrapped n = n % 65536

@@ -1,5 +1,10 @@
-// The types that every part of the way shares, named as in the documents. They hold no rule:
-// what each value means stands in specs/.
+// The types that every part of the way shares, named as in the documents, and how a check answers.
+// The types hold no rule: what each value means stands in specs/.
+ghost use mathlib.Core.Path.{_≡_};
+ghost use mathlib.Core.List.{[], _∷_};
+ghost use Prim.Native.Nat.{_≤_};
+ghost use Rattle.rules.specs.File.{mostNumber};
+ghost use Rattle.rules.specs.Refusals.{judge, once, refuse};
 
 // A cell's position in the scan chain, from 0. Never used as a net number.
 pub struct Position(pub u16);
@@ -54,4 +59,27 @@ pub enum Mark {
     Fail,
     NotSeen,
     ReadTwice,
+}
+
+// A refusal at a place.
+pub fn refuse(number: u8, place: usize) -> Verdict
+    requires { ⌜ place ≤ mostNumber ⌝ }
+    ensures { λ r. ⌜ r ≡ refuse number place ⌝ }
+{
+    Verdict::Refused(Refusal {
+        number,
+        place: place as u16,
+        second: 0,
+    })
+}
+
+// A check that looks at one place, 0.
+pub fn once(number: u8, fails: bool) -> Verdict
+    ensures { λ r. ⌜ r ≡ judge (once number fails ∷ []) ⌝ }
+{
+    if fails {
+        refuse(number, 0)
+    } else {
+        Verdict::Accepted
+    }
 }

@@ -1,11 +1,11 @@
--- `blocks::once` meets its contract, by the law of a check that looks at one place.
+-- `rules::once` meets its contract, by the law of a check that looks at one place.
 use mathlib.Core.Path.{sym, _∙_}
 use mathlib.Core.List.{[]}
 use borrow.Author.Needs.{needs}
 use Rattle.rules.specs.Refusals.{judge}
 use Rattle.rules.proofs.Searching.{once-fails, once-passes}
-use Rattle.blocks.proofs.once.Statement.{statement}
-use Rattle.blocks.proofs.once.Tie as tie
+use Rattle.rules.proofs.once.Statement.{statement}
+use Rattle.rules.proofs.once.Tie as tie
 
 returns : tie.Need-returns
 returns c = c .refuse .ensures ∙ sym (once-fails _ _ [] (c .before .if1 .taken))
