@@ -24,11 +24,3 @@ const uint8_t *row_of(const struct board *board, const uint8_t *rows, unsigned v
 {
     return rows + vector_number * board->row;
 }
-
-unsigned net_value(const struct board *board, const uint8_t *rows, unsigned net, unsigned vector_number)
-{
-    unsigned position = 0;
-    while (position + 1 < board->says.cells && !drives(&board->says.cell[position], net))
-        position++;
-    return bit_at(row_of(board, rows, vector_number), position);
-}

@@ -1,5 +1,5 @@
 /*
- * rows.h - all rows of a board's vectors, asked of the library one by one, and what they say of its nets.
+ * rows.h - all rows of a board's vectors, asked of the library one by one.
  */
 #ifndef ROWS_H
 #define ROWS_H
@@ -11,8 +11,5 @@ uint8_t *all_rows(const struct board *board);
 
 /* The row of a vector among these, or of a capture. */
 const uint8_t *row_of(const struct board *board, const uint8_t *rows, unsigned vector_number);
-
-/* A net's value in a vector: that of any output of it, since each is loaded with its net's value. */
-unsigned net_value(const struct board *board, const uint8_t *rows, unsigned net, unsigned vector_number);
 
 #endif
