@@ -13,6 +13,7 @@ use lib.Dec.{eqb, ltb}
 use Rattle.rules.specs.File.{Board, boardOf}
 use Rattle.rules.specs.Drivers.{isControl, drives, drivers, outputs, meets, inside, crosses}
 use Rattle.rules.specs.Refusals.{judge, numberOf, crossed, unequal, controlChecks, earlyChecks, boardChecks}
+use Rattle.rules.specs.declared.Refusal.{Refusal}
 use Rattle.rules.specs.declared.Verdict.{Verdict}
 use Rattle.rules.specs.declared.Verdict.the-variants.{Accepted, Refused}
 use Rattle.rules.proofs.Tests.{decided, order, left, right, both, not-fails, fails-not, clashes, fails-if, passes-if, any-member, any-none, none-any}
@@ -117,10 +118,10 @@ unfolding numberOf controlChecks
 refused-exactly file e =
     (λ h r. let a = ap numberOf (accepted-exactly file e .1 r) in ⊎-elim (λ (t : numberOf (judge (boardChecks file)) ≡ 10). omega arith) (λ (t : numberOf (judge (boardChecks file)) ≡ 11). omega arith) h, λ broken. go broken (judge (boardChecks file)) refl)
   where
-    which : (number place : ℕ) → First number place (controlChecks (boardOf file)) → (number ≡ 10) ⊎ (number ≡ 11)
-    which number place (here x a) = inl (sym x)
-    which number place (later p (here x a)) = inr (sym x)
+    which : (r : Refusal) → First r (controlChecks (boardOf file)) → (r .number ≡ 10) ⊎ (r .number ≡ 11)
+    which r (here place a x) = inl (ap (λ (s : Refusal). s .number) (sym x))
+    which r (later p (here place a x)) = inr (ap (λ (s : Refusal). s .number) (sym x))
 
     go : (Requirement (boardOf file) → ⊥) → (v : Verdict) → judge (boardChecks file) ≡ v → (numberOf v ≡ 10) ⊎ (numberOf v ≡ 11)
     go broken Accepted q = absurd (broken (accepted-exactly file e .0 q))
-    go broken (Refused r) q = which (r .number) (r .place) (given-first (controlChecks (boardOf file)) r (sym (rest file e) ∙ q) .0)
+    go broken (Refused r) q = which r (given-first (controlChecks (boardOf file)) r (sym (rest file e) ∙ q))

@@ -8,7 +8,7 @@ use mathlib.Core.List.{List, [], _∷_, _++_, map}
 use native.Mathlib.Omega.{arith}
 use borrow.Author.Tests.{lt-ltb, le-ltb}
 use Rattle.rules.specs.Basics.{least}
-use Rattle.rules.specs.Refusals.{Check, each, judge, refuse, numberOf, placeOf, secondOf, shapeChecks, fileChecks, netChecks, controlChecks, earlyChecks, boardChecks, countChecks, groupsChecks, vectorChecks, marksChecks}
+use Rattle.rules.specs.Refusals.{Check, each, judge, numbered, shapeChecks, fileChecks, netChecks, controlChecks, earlyChecks, boardChecks, countChecks, groupsChecks, vectorChecks, marksChecks}
 use Rattle.rules.specs.declared.Refusal.{Refusal}
 use Rattle.rules.specs.declared.Verdict.{Verdict}
 use Rattle.rules.specs.declared.Verdict.the-variants.{Accepted, Refused}
@@ -29,14 +29,19 @@ abbrev pub AllPass : List Check → Type 0
 AllPass [] = Unit
 AllPass (check ∷ checks) = Passes check × AllPass checks
 
--- the first check of the list that applies has this number, and applies lowest at this place
-pub data First (number place : ℕ) : List Check → Type 0 where
-  here : {check : Check} {checks : List Check} → check .number ≡ number → Applies check place → First number place (check ∷ checks)
-  later : {check : Check} {checks : List Check} → Passes check → First number place checks → First number place (check ∷ checks)
+-- the first check of the list that applies says this refusal, of the lowest place at which it applies
+pub data First (r : Refusal) : List Check → Type 0 where
+  here : {check : Check} {checks : List Check} (place : ℕ) → Applies check place → check .says place ≡ r → First r (check ∷ checks)
+  later : {check : Check} {checks : List Check} → Passes check → First r checks → First r (check ∷ checks)
 
 -- a verdict is one or the other
 pub never : (r : Refusal) → Refused r ≡ Accepted → ⊥
 never r e = let z : _≡_ {A = ℕ} 0 1 = cc in omega arith
+
+-- the refusal of a verdict, or another where it has none
+refusalOf : Refusal → Verdict → Refusal
+refusalOf other Accepted = other
+refusalOf other (Refused r) = r
 
 -- one check: it passes, and the list goes on
 pub judge-passes : (check : Check) (checks : List Check) → Passes check → judge (check ∷ checks) ≡ judge checks
@@ -45,7 +50,7 @@ judge-passes check checks h =
     rw (least-none (check .places) (check .fails) h, le-ltb (check .places) (check .places) (omega arith))
 
 -- or it applies, and its lowest place is given
-pub judge-applies : (check : Check) (checks : List Check) {place : ℕ} → Applies check place → judge (check ∷ checks) ≡ refuse (check .number) place
+pub judge-applies : (check : Check) (checks : List Check) {place : ℕ} → Applies check place → judge (check ∷ checks) ≡ Refused (check .says place)
 unfolding judge
 judge-applies check checks {place} h =
     rw (least-at (check .places) (check .fails) (h .within) (h .applies) (h .lowest), lt-ltb place (check .places) (h .within))
@@ -75,19 +80,18 @@ unfolding judge
 accepted [] h = refl
 accepted (check ∷ checks) h = judge-passes check checks (h .0) ∙ accepted checks (h .1)
 
--- refused exactly where the first check that applies has that number and applies lowest at that place; the second place is 0
-pub first-given : (checks : List Check) {number place : ℕ} → First number place checks → judge checks ≡ refuse number place
-first-given (check ∷ checks) {place = place} (here e h) =
-    judge-applies check checks h ∙ ap (λ (n : ℕ). refuse n place) e
+-- refused exactly where the first check that applies says that refusal, of the lowest place at which it applies
+pub first-given : (checks : List Check) {r : Refusal} → First r checks → judge checks ≡ Refused r
+first-given (check ∷ checks) (here place h e) = judge-applies check checks h ∙ ap Refused e
 first-given (check ∷ checks) (later h first) = judge-passes check checks h ∙ first-given checks first
 
-pub given-first : (checks : List Check) (r : Refusal) → judge checks ≡ Refused r → First (r .number) (r .place) checks × (r .second ≡ 0)
-unfolding judge numberOf placeOf secondOf
+pub given-first : (checks : List Check) (r : Refusal) → judge checks ≡ Refused r → First r checks
+unfolding judge refusalOf
 given-first [] r e = absurd (never r (sym e))
 given-first (check ∷ checks) r e =
     ⊎-elim
-    (λ (h : Passes check). let f = given-first checks r (sym (judge-passes check checks h) ∙ e) in (later h (f .0), f .1))
-    (λ f. let q = sym (judge-applies check checks (f .1)) ∙ e in (here (ap numberOf q) (subst (Applies check) (ap placeOf q) (f .1)), sym (ap secondOf q)))
+    (λ (h : Passes check). later h (given-first checks r (sym (judge-passes check checks h) ∙ e)))
+    (λ f. here (f .0) (f .1) (ap (refusalOf (check .says (f .0))) (sym (judge-applies check checks (f .1)) ∙ e)))
     (cases check)
 
 -- what one list answers, and where it accepts what the next does
@@ -111,25 +115,41 @@ pub append-pass : (xs ys : List Check) → AllPass (xs ++ ys) → AllPass xs × 
 append-pass [] ys h = (tt, h)
 append-pass (check ∷ checks) ys h = let r = append-pass checks ys (h .1) in ((h .0, r .0), r .1)
 
--- "Checked in ascending order": the numbers of each question's checks
-pub numbers : List Check → List ℕ
-numbers checks = map (λ (check : Check). check .number) checks
+-- "Checked in ascending order": each check of a list says its own number, the place at which it applies, and no second place
+abbrev pub Numbered : List Check → List ℕ → Type 0
+Numbered [] [] = Unit
+Numbered [] (number ∷ numbers) = ⊥
+Numbered (check ∷ checks) [] = ⊥
+Numbered (check ∷ checks) (number ∷ numbers) = ((place : ℕ) → check .says place ≡ numbered number place) × Numbered checks numbers
 
-pub count-numbers : (file : List ℕ) → numbers (countChecks file) ≡ 1 ∷ 2 ∷ 3 ∷ 4 ∷ 5 ∷ 6 ∷ 7 ∷ 8 ∷ 9 ∷ 10 ∷ 11 ∷ 12 ∷ []
-unfolding numbers countChecks boardChecks earlyChecks shapeChecks fileChecks netChecks controlChecks
-count-numbers file = refl
+-- the numbers of all four questions' checks, before their own
+abbrev pub countNumbers : List ℕ
+countNumbers = 1 ∷ 2 ∷ 3 ∷ 4 ∷ 5 ∷ 6 ∷ 7 ∷ 8 ∷ 9 ∷ 10 ∷ 11 ∷ 12 ∷ []
 
-pub groups-numbers : (file buffer : List ℕ) → numbers (groupsChecks file buffer) ≡ numbers (countChecks file) ++ (15 ∷ [])
-unfolding numbers groupsChecks countChecks boardChecks earlyChecks shapeChecks fileChecks netChecks controlChecks
-groups-numbers file buffer = refl
+pub count-numbers : (file : List ℕ) → Numbered (countChecks file) countNumbers
+unfolding countChecks boardChecks earlyChecks shapeChecks fileChecks netChecks controlChecks
+count-numbers file = (one, (one, (one, (one, (one, (one, (one, (one, (one, (one, (one, (one, tt))))))))))))
+  where
+    one : {number : ℕ} (place : ℕ) → numbered number place ≡ numbered number place
+    one place = refl
 
-pub vector-numbers : (file : List ℕ) (number : ℕ) (buffer : List ℕ) → numbers (vectorChecks file number buffer) ≡ numbers (countChecks file) ++ (13 ∷ 15 ∷ [])
-unfolding numbers vectorChecks countChecks boardChecks earlyChecks shapeChecks fileChecks netChecks controlChecks
-vector-numbers file number buffer = refl
+pub numbered-append : (xs ys : List Check) (ns ms : List ℕ) → Numbered xs ns → Numbered ys ms → Numbered (xs ++ ys) (ns ++ ms)
+numbered-append [] ys [] ms h g = g
+numbered-append [] ys (n ∷ ns) ms h g = absurd h
+numbered-append (x ∷ xs) ys [] ms h g = absurd h
+numbered-append (x ∷ xs) ys (n ∷ ns) ms h g = (h .0, numbered-append xs ys ns ms (h .1) g)
 
-pub marks-numbers : (file capture buffer : List ℕ) → numbers (marksChecks file capture buffer) ≡ numbers (countChecks file) ++ (14 ∷ 15 ∷ [])
-unfolding numbers marksChecks countChecks boardChecks earlyChecks shapeChecks fileChecks netChecks controlChecks
-marks-numbers file capture buffer = refl
+pub groups-numbers : (file buffer : List ℕ) → Numbered (groupsChecks file buffer) (countNumbers ++ (15 ∷ []))
+unfolding groupsChecks
+groups-numbers file buffer = numbered-append (countChecks file) _ countNumbers (15 ∷ []) (count-numbers file) (λ place. refl, tt)
+
+pub vector-numbers : (file : List ℕ) (number : ℕ) (buffer : List ℕ) → Numbered (vectorChecks file number buffer) (countNumbers ++ (13 ∷ 15 ∷ []))
+unfolding vectorChecks
+vector-numbers file number buffer = numbered-append (countChecks file) _ countNumbers (13 ∷ 15 ∷ []) (count-numbers file) (λ place. refl, (λ place. refl, tt))
+
+pub marks-numbers : (file capture buffer : List ℕ) → Numbered (marksChecks file capture buffer) (countNumbers ++ (14 ∷ 15 ∷ []))
+unfolding marksChecks
+marks-numbers file capture buffer = numbered-append (countChecks file) _ countNumbers (14 ∷ 15 ∷ []) (count-numbers file) (λ place. refl, (λ place. refl, tt))
 
 -- checks that agree at each of their places judge alike
 pub judge-same : (number places : ℕ) (f g : ℕ → Bool) → ((i : ℕ) → i < places → f i ≡ g i) → judge (each number places f ∷ []) ≡ judge (each number places g ∷ [])

@@ -8,6 +8,7 @@ use Rattle.rules.specs.Basics.{any, ceil, least, rowBytes}
 use Rattle.rules.specs.File.{Board, blockSize, blockRecords, blocksIn, sumsRight, headerRight, cellsOf, netsOf, limitOf, cellBlockRight, brokenAt, boardOf}
 use Rattle.rules.specs.Drivers.{alwaysOn, controlled, controlFor, outputOf, drivers, drives, crosses, isControl, groupsOf}
 use Rattle.rules.specs.Vectors.{totalOf}
+use Rattle.rules.specs.declared.Refusal.{Refusal}
 use Rattle.rules.specs.declared.Verdict.{Verdict}
 use Rattle.rules.specs.declared.Verdict.the-variants.{Accepted, Refused}
 
@@ -30,15 +31,18 @@ mostVectors = 4096
 abbrev pub mostBlocks : ℕ
 mostBlocks = 14
 
--- a row of the table: its number, how many places it looks at (from 0), and at which of them it applies
+-- a row of the table: how many places it looks at (from 0), at which of them it applies, and the refusal that it says of a place
 pub record Check : Type 0 where
-  pub number : ℕ
   pub places : ℕ
   pub fails : ℕ → Bool
+  pub says : ℕ → Refusal
 
--- a refusal at a place; the second place is 0 until a refusal names one
+-- "A refusal returns number and place": the number is the row's, the place the one at which it applies; no row names a second place
+abbrev pub numbered : ℕ → ℕ → Refusal
+numbered number place = record { number = number; place = place; second = 0 }
+
 abbrev pub refuse : ℕ → ℕ → Verdict
-refuse number place = Refused (record { number = number; place = place; second = 0 })
+refuse number place = Refused (numbered number place)
 
 -- "Checked in ascending order; the first that applies is given", at its lowest place
 unfoldable pub judge : List Check → Verdict
@@ -46,7 +50,7 @@ judge [] = Accepted
 judge (check ∷ checks) =
     let rest : Verdict = judge checks in
     let place : ℕ = least (check .places) (check .fails) in
-    cond (ltb place (check .places)) (refuse (check .number) place) rest
+    cond (ltb place (check .places)) (Refused (check .says place)) rest
 
 -- a verdict's number and places: "An accepted call returns 0 for number and place"
 unfoldable pub numberOf : Verdict → ℕ
@@ -108,10 +112,11 @@ unequal b k =
 
 -- a check that looks at one place, 0
 abbrev pub once : ℕ → Bool → Check
-once number fails = record { number = number; places = 1; fails = λ place. fails }
+once number fails = record { places = 1; fails = λ place. fails; says = numbered number }
 
+-- a check that looks at each of so many places
 abbrev pub each : ℕ → ℕ → (ℕ → Bool) → Check
-each number places fails = record { number = number; places = places; fails = fails }
+each number places fails = record { places = places; fails = fails; says = numbered number }
 
 -- refusals 1 to 5: the file's blocks
 unfoldable pub shapeChecks : List ℕ → List Check
