@@ -9,15 +9,14 @@ use borrow.Author.Tests.{eqb-true, eqb-false, eq-eqb, ne-eqb}
 use lib.Dec.{eqb}
 use Rattle.rules.specs.Basics.{any}
 use Rattle.rules.specs.File.{Board}
-use Rattle.rules.specs.Drivers.{controlled, controlFor, alwaysOn, onNet, outputOf}
+use Rattle.rules.specs.Drivers.{driverAt, controlled, controlFor, alwaysOn, onNet, outputOf}
 use Rattle.rules.specs.Refusals.{clash, clashing}
 use Rattle.rules.proofs.Tests.{left, right, both, or-left, or-right, or-cases, not-fails, fails-not, clashes, order, any-at, any-member, same-test}
 use Rattle.rules.proofs.Driving.{kinds-differ}
-use Rattle.cells.specs.Driven.{driverIn}
 use Rattle.board.specs.Nets.{conflictOf, conflictAt}
-use Rattle.cells.specs.declared.Driver.{Driver}
-use Rattle.cells.specs.declared.Driver.the-variants.{Of, Nothing}
-use Rattle.cells.proofs.DrivenLaws.{is-driver, no-driver}
+use Rattle.rules.specs.declared.Driver.{Driver}
+use Rattle.rules.specs.declared.Driver.the-variants.{Of, Nothing}
+use Rattle.rules.proofs.DriverLaws.{is-driver, no-driver}
 
 module _ (b : Board) (n : ℕ) where
   -- an output with a lower one of the same net that may not stand beside it
@@ -25,13 +24,13 @@ module _ (b : Board) (n : ℕ) where
   atOdds c = outputOf b n c && any c (conflictAt b n c)
 
   -- an output that is no controlled driver is always on
-  on-else : (c : ℕ) → outputOf b n c ≡ true → driverIn (b .cell c) ≡ Nothing → alwaysOn b c ≡ true
+  on-else : (c : ℕ) → outputOf b n c ≡ true → driverAt b c ≡ Nothing → alwaysOn b c ≡ true
   unfolding outputOf
   on-else c o e =
       ⊎-elim (λ k. absurd (clashes k (no-driver b c e))) (λ a. a) (or-cases (controlled b c) (right (onNet b n c) o))
 
   -- the pair's conflict, from its clash: either way round
-  odds : (c d : ℕ) (x y : Driver) → driverIn (b .cell c) ≡ x → driverIn (b .cell d) ≡ y → (alwaysOn b c || (controlled b c && controlled b d && eqb (controlFor b c) (controlFor b d))) ≡ true → (conflictOf x y ≡ true) × (conflictOf y x ≡ true)
+  odds : (c d : ℕ) (x y : Driver) → driverAt b c ≡ x → driverAt b d ≡ y → (alwaysOn b c || (controlled b c && controlled b d && eqb (controlFor b c) (controlFor b d))) ≡ true → (conflictOf x y ≡ true) × (conflictOf y x ≡ true)
   unfolding conflictOf
   odds c d Nothing Nothing p q h = (refl, refl)
   odds c d Nothing (Of j m) p q h = (refl, refl)
@@ -45,7 +44,7 @@ module _ (b : Board) (n : ℕ) where
       (or-cases (alwaysOn b c) h)
 
   -- and back
-  clash-of : (c d : ℕ) (x y : Driver) → driverIn (b .cell c) ≡ x → driverIn (b .cell d) ≡ y → outputOf b n c ≡ true → outputOf b n d ≡ true → (c ≡ d → ⊥) → conflictOf x y ≡ true → (clash b n c d ≡ true) ⊎ (clash b n d c ≡ true)
+  clash-of : (c d : ℕ) (x y : Driver) → driverAt b c ≡ x → driverAt b d ≡ y → outputOf b n c ≡ true → outputOf b n d ≡ true → (c ≡ d → ⊥) → conflictOf x y ≡ true → (clash b n c d ≡ true) ⊎ (clash b n d c ≡ true)
   unfolding clash conflictOf
   clash-of c d Nothing y p q o u z h =
       inl (both (both (both (not-fails (ne-eqb c d z)) o) u) (or-left _ (on-else c o p)))
@@ -57,7 +56,7 @@ module _ (b : Board) (n : ℕ) where
       inl (both (both (both (not-fails (ne-eqb c d z)) o) u) (or-right (alwaysOn b c) (both (both (x .0) (y .0)) (eq-eqb _ _ (x .1 ∙ eqb-true _ _ h ∙ sym (y .1))))))
 
   -- a clash of two, the higher first
-  found : (c d : ℕ) → c < b .size → d < c → outputOf b n c ≡ true → outputOf b n d ≡ true → conflictOf (driverIn (b .cell c)) (driverIn (b .cell d)) ≡ true → any (b .size) atOdds ≡ true
+  found : (c d : ℕ) → c < b .size → d < c → outputOf b n c ≡ true → outputOf b n d ≡ true → conflictOf (driverAt b c) (driverAt b d) ≡ true → any (b .size) atOdds ≡ true
   unfolding conflictAt
   found c d l m o u h = any-at _ _ l (both o (any-at _ _ m (both u h)))
 

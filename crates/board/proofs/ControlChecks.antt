@@ -16,7 +16,7 @@ use Rattle.rules.specs.declared.Verdict.the-variants.{Accepted}
 use Rattle.rules.proofs.Tests.{decided, left, right, both, or-left, not-fails, fails-not, clashes, fails-if, order, same-test, any-at, any-member, none-any, seek-lowest}
 use Rattle.rules.proofs.Driving.{drives-driver, meets-net}
 use Rattle.rules.proofs.Shape.{laid, shaped, whole-records}
-use Rattle.rules.proofs.Acceptance.{kept-control, kept-net}
+use Rattle.rules.proofs.DriverLaws.{kept-control, kept-net}
 use Rattle.words.specs.Sets.{netWords, cellWords, meetsIn, insideIn, lieBy, lieOf}
 use Rattle.words.proofs.Bounds.{meets-bound, inside-bound}
 use Rattle.chains.specs.Chains.{ControlCell, keyed}

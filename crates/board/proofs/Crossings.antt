@@ -18,7 +18,7 @@ use Rattle.rules.specs.declared.Verdict.the-variants.{Accepted}
 use Rattle.rules.proofs.Tests.{left, right, both, or-left, or-right, or-cases, fails-not, fails-if, clashes, order, same-test, any-at, none-any, all-at, Lowest, seek-lowest}
 use Rattle.rules.proofs.Driving.{meets-net, meets-at, not-included, drives-driver}
 use Rattle.rules.proofs.Shape.{whole-records}
-use Rattle.rules.proofs.Acceptance.{kept-control}
+use Rattle.rules.proofs.DriverLaws.{kept-control}
 use Rattle.rules.proofs.Searching.{Searched, found, ended}
 use Rattle.words.specs.Sets.{netWords, nothing, either, member, meetsIn, insideIn, lieBy, lieOf}
 use Rattle.chains.specs.Chains.{ControlCell, keyed, Chains}

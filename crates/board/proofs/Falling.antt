@@ -1,6 +1,6 @@
 -- Refusal 8 by one walk. The idea: where the control cells fall along a net's chain, no two of its outputs are of one control cell.
 use Prim.Native.Nat.{ℕ, _-_, _<_, _≤_}
-use mathlib.Core.Path.{_≡_, sym, _∙_}
+use mathlib.Core.Path.{_≡_, refl, sym, _∙_}
 use mathlib.Core.Logic.{⊎-elim}
 use mathlib.Core.Bool.{Bool, true, false}
 use mathlib.Core.List.{List}
@@ -8,14 +8,14 @@ use native.Mathlib.Omega.{arith}
 use borrow.Author.Tests.{ne-eqb}
 use lib.ListN.{length, getD}
 use Rattle.rules.specs.File.{Board, boardOf, cellsOf, none}
-use Rattle.rules.specs.Drivers.{outputOf}
+use Rattle.rules.specs.Drivers.{driverAt, controlFor, outputOf}
 use Rattle.rules.specs.Refusals.{clashing}
 use Rattle.rules.proofs.Tests.{left, right, fails-if, clashes, order, any-member, none-any}
-use Rattle.cells.specs.declared.Driver.{Driver}
-use Rattle.cells.specs.declared.Driver.the-variants.{Of, Nothing}
+use Rattle.rules.specs.declared.Driver.{Driver}
+use Rattle.rules.specs.declared.Driver.the-variants.{Of, Nothing}
+use Rattle.rules.proofs.DriverLaws.{is-driver, no-control}
 use Rattle.chains.specs.Chains.{NetOf, keyed, last, Chains}
-use Rattle.cells.specs.Driven.{driverIn}
-use Rattle.board.specs.Nets.{controlIn, conflictOf, conflictAt}
+use Rattle.board.specs.Nets.{conflictOf, conflictAt}
 use Rattle.chains.proofs.Chaining.{last-le, last-member, last-above, last-again, keyed-net}
 use Rattle.chains.proofs.Walks.{above}
 use Rattle.board.proofs.Clashing.{atOdds, clashing-odds}
@@ -53,30 +53,29 @@ module _ (p : ℕ → Bool) (rank : ℕ → ℕ) (n : ℕ) where
             (order c (at - 1))
 
 -- drivers of two control cells do not conflict
-no-conflict : (x y : Driver) → controlIn y < controlIn x → controlIn x < none → conflictOf x y ≡ false
-unfolding controlIn conflictOf
-no-conflict (Of k n) (Of j m) l h = ne-eqb (k .0) (j .0) (λ e. omega arith)
-no-conflict (Of k n) Nothing l h = absurd (omega arith)
-no-conflict Nothing y l h = absurd (omega arith)
+no-conflict : (b : Board) (c d : ℕ) → controlFor b d < controlFor b c → controlFor b c < none → conflictOf (driverAt b c) (driverAt b d) ≡ false
+unfolding conflictOf
+no-conflict b c d l h = go (driverAt b c) (driverAt b d) refl refl
+  where
+    go : (x y : Driver) → driverAt b c ≡ x → driverAt b d ≡ y → conflictOf x y ≡ false
+    go (Of k n) (Of j m) p q = let x = is-driver b c k n p .1 in let y = is-driver b d j m q .1 in ne-eqb (k .0) (j .0) (λ e. omega arith)
+    go (Of k n) Nothing p q = let y = no-control b d q in absurd (omega arith)
+    go Nothing y p q = let x = no-control b c p in absurd (omega arith)
 
--- the control cell of the driver at c
-abbrev pub rankOf : Board → ℕ → ℕ
-rankOf b c = controlIn (driverIn (b .cell c))
-
-fallen-clear : (b : Board) (n at low : ℕ) → Fallen (keyed b NetOf n) (rankOf b) (b .size) at low → at ≤ 0 → clashing b n ≡ false
+fallen-clear : (b : Board) (n at low : ℕ) → Fallen (keyed b NetOf n) (controlFor b) (b .size) at low → at ≤ 0 → clashing b n ≡ false
 unfolding conflictAt
 fallen-clear b n at low w z =
-    clashing-odds b n ∙ none-any (b .size) (atOdds b n) (λ c l. fails-if _ (λ t. let o = left (outputOf b n c) _ t in let d = any-member _ _ (right (outputOf b n c) t) in let u = left (outputOf b n (d .0)) _ (d .2) in let x = keyed-net b n c ∙ o in let y = keyed-net b n (d .0) ∙ u in clashes (right (outputOf b n (d .0)) (d .2)) (no-conflict _ _ (w .fell c (d .0) (omega arith) (d .1) l x y) (w .lowest c (omega arith) l x .1))))
+    clashing-odds b n ∙ none-any (b .size) (atOdds b n) (λ c l. fails-if _ (λ t. let o = left (outputOf b n c) _ t in let d = any-member _ _ (right (outputOf b n c) t) in let u = left (outputOf b n (d .0)) _ (d .2) in let x = keyed-net b n c ∙ o in let y = keyed-net b n (d .0) ∙ u in clashes (right (outputOf b n (d .0)) (d .2)) (no-conflict _ _ _ (w .fell c (d .0) (omega arith) (d .1) l x y) (w .lowest c (omega arith) l x .1))))
 
 -- over the chain of a net of a whole file
 module _ (file heads links : List ℕ) (chains : Chains file NetOf heads links) (n : ℕ) where
   abbrev pub Falling : ℕ → ℕ → Type 0
-  Falling at low = Fallen (keyed (boardOf file) NetOf n) (rankOf (boardOf file)) (cellsOf file) at low
+  Falling at low = Fallen (keyed (boardOf file) NetOf n) (controlFor (boardOf file)) (cellsOf file) at low
 
   pub falling-start : n < length heads → (at : ℕ) → at ≡ getD heads n 0 → Falling at none
   falling-start l at e = rw (e, chains .linked .head n l) (fallen-start _ _ _)
 
-  pub falling-next : (at low next k : ℕ) → Falling at low → 0 < at → k ≡ rankOf (boardOf file) (at - 1) → k < low → next ≡ getD links (at - 1) 0 → Falling next k
+  pub falling-next : (at low next k : ℕ) → Falling at low → 0 < at → k ≡ controlFor (boardOf file) (at - 1) → k < low → next ≡ getD links (at - 1) 0 → Falling next k
   falling-next at low next k w some e less f =
       let u = w .under in
       rw (e, f, chains .linked .link (at - 1) n (omega arith) (fallen-on _ _ _ at low w some))

@@ -5,11 +5,10 @@ use mathlib.Core.Bool.{Bool, true, _&&_, _||_}
 use mathlib.Core.List.{List}
 use lib.Dec.{eqb, ltb}
 use lib.ListN.{getD}
-use Rattle.rules.specs.File.{Board, cellsOf, netsOf, none}
-use Rattle.rules.specs.Drivers.{outputOf}
-use Rattle.cells.specs.Driven.{driverIn}
-use Rattle.cells.specs.declared.Driver.{Driver}
-use Rattle.cells.specs.declared.Driver.the-variants.{Of, Nothing}
+use Rattle.rules.specs.File.{Board, cellsOf, netsOf}
+use Rattle.rules.specs.Drivers.{driverAt, outputOf}
+use Rattle.rules.specs.declared.Driver.{Driver}
+use Rattle.rules.specs.declared.Driver.the-variants.{Of, Nothing}
 use Rattle.chains.specs.Chains.{NetOf, Chains}
 use Rattle.chains.specs.Counts.{Counted}
 
@@ -21,11 +20,6 @@ outside low high x = ltb x low || ltb high x
 unfoldable pub outsideAt : ℕ → ℕ → List ℕ → ℕ → Bool
 outsideAt low high table n = outside low high (getD table n 0)
 
--- the control cell of a driver; "65,535 means none"
-unfoldable pub controlIn : Driver → ℕ
-controlIn (Of k n) = k .0
-controlIn Nothing = none
-
 -- two outputs of one net: one of them is always on, or both are of one control cell
 unfoldable pub conflictOf : Driver → Driver → Bool
 conflictOf (Of k n) (Of j m) = eqb (k .0) (j .0)
@@ -35,7 +29,7 @@ conflictOf Nothing Nothing = true
 
 -- the cell at d is an output of net n and may not stand beside the one at c
 unfoldable pub conflictAt : Board → ℕ → ℕ → ℕ → Bool
-conflictAt b n c d = outputOf b n d && conflictOf (driverIn (b .cell c)) (driverIn (b .cell d))
+conflictAt b n c d = outputOf b n d && conflictOf (driverAt b c) (driverAt b d)
 
 -- the chains by net and the counts of a whole file
 pub record Checkable (file heads links counts : List ℕ) (nets : ℕ) : Type 0 where

@@ -12,13 +12,12 @@ ghost use Rattle.words.specs.Sets.{netWords, member, lieOf};
 ghost use Rattle.chains.specs.Chains.{ControlCell, NetOf, Chains};
 ghost use Rattle.chains.specs.Counts.{Counted};
 ghost use Rattle.board.specs.Controls.{isCrossing, isClear, sameIn, crossedFrom, driversAt, Twin, Idle, Walked, Tables, Kinds};
-use cells::Driver;
-use cells::cell_at;
-use cells::driver_of;
+use cells::driver_at;
 use cells::net_at;
 use chains::held;
 use chains::sharing::nets_of;
 use chains::sharing::partners;
+use rules::Driver;
 use rules::Verdict;
 use words::Lie;
 use words::NetSet;
@@ -95,7 +94,7 @@ fn top_sharer(file: &[u8], net_heads: &[u16], net_links: &[u16], c: usize) -> us
     requires { ⌜ c < cellsOf (now file) ⌝ }
     ensures { λ r. ⌜ r < cellsOf (now (file .entry)) ⌝ }
 {
-    let own = driver_of(cell_at(file, c));
+    let own = driver_at(file, c);
     let Driver::Of(_, n) = own else {
         return c;
     };
@@ -103,7 +102,7 @@ fn top_sharer(file: &[u8], net_heads: &[u16], net_links: &[u16], c: usize) -> us
     if at == 0 {
         return c;
     }
-    let top = driver_of(cell_at(file, at - 1));
+    let top = driver_at(file, at - 1);
     let Driver::Of(k, _) = top else {
         return c;
     };

@@ -6,16 +6,14 @@ ghost use Prim.Native.Nat.{ℕ, _<_, _≤_};
 ghost use lib.ListN.{length};
 ghost use Rattle.rules.specs.Basics.{any};
 ghost use Rattle.rules.specs.File.{boardOf, cellsOf, netsOf};
+ghost use Rattle.rules.specs.Drivers.{controlFor};
 ghost use Rattle.rules.specs.Refusals.{judge, each, clashing, netChecks};
 ghost use Rattle.chains.specs.Chains.{NetOf, keyed, Chains};
-ghost use Rattle.cells.specs.Driven.{driverIn};
-ghost use Rattle.board.specs.Nets.{controlIn, conflictOf, conflictAt, outside, outsideAt, Checkable};
+ghost use Rattle.board.specs.Nets.{conflictOf, conflictAt, outside, outsideAt, Checkable};
 ghost use Rattle.cells.specs.Whole.{Whole};
-use cells::Driver;
-use cells::cell_at;
-use cells::driver_of;
+use cells::driver_at;
 use chains::held;
-use rules::Cell;
+use rules::Driver;
 use rules::Verdict;
 
 // "at most 16 controlled drivers on a net"
@@ -54,14 +52,12 @@ fn outside_verdict(number: u8, table: &[u16], low: u16, high: u16, nets: usize) 
 }
 
 // Two outputs of one net that may not stand together: one is always on, or both are of one control cell.
-fn conflict(a: Cell, b: Cell) -> bool
-    ensures { λ r. ⌜ r ≡ conflictOf (driverIn a) (driverIn b) ⌝ }
+fn conflict(first: Driver, second: Driver) -> bool
+    ensures { λ r. ⌜ r ≡ conflictOf first second ⌝ }
 {
-    let first = driver_of(a);
     let Driver::Of(k, _) = first else {
         return true;
     };
-    let second = driver_of(b);
     let Driver::Of(j, _) = second else {
         return true;
     };
@@ -74,11 +70,11 @@ fn clash_below(file: &[u8], heads: &[u16], links: &[u16], c: usize) -> bool
     requires { ⌜ c < cellsOf (now file) ⌝ }
     ensures { λ r. ⌜ ((n : ℕ) → keyed (boardOf (now (file .entry))) NetOf n c ≡ true → r ≡ any c (conflictAt (boardOf (now (file .entry))) n c)) ⌝ }
 {
-    let cell = cell_at(file, c);
+    let own = driver_at(file, c);
     let mut at = held(links, c);
     while 0 < at {
         let d = at - 1;
-        if conflict(cell, cell_at(file, d)) {
+        if conflict(own, driver_at(file, d)) {
             return true;
         }
         at = held(links, d);
@@ -106,9 +102,9 @@ fn clashes(file: &[u8], heads: &[u16], links: &[u16], n: usize) -> bool
 // The control cell of the driver at c, or NO_CONTROL.
 fn control_of(file: &[u8], c: usize) -> usize
     requires { ⌜ Whole (now file) c ⌝ }
-    ensures { λ r. ⌜ r ≡ controlIn (driverIn (boardOf (now (file .entry)) .cell c)) ⌝ }
+    ensures { λ r. ⌜ r ≡ controlFor (boardOf (now (file .entry))) c ⌝ }
 {
-    let driver = driver_of(cell_at(file, c));
+    let driver = driver_at(file, c);
     let Driver::Of(k, _) = driver else {
         return NO_CONTROL;
     };

@@ -1,3 +1,2 @@
--- What a reader of records may assume, and what a cell drives.
+-- What a reader of records may assume.
 pub mod Whole
-pub mod Driven

@@ -7,13 +7,14 @@ ghost use Rattle.rules.specs.File.{recordAt, ofKind2, recordOf, brokenAt, board
 ghost use Rattle.rules.specs.Refusals.{judge, each, mostCells};
 ghost use Rattle.rules.specs.File as File;
 ghost use mathlib.Core.Bool.{_&&_};
-ghost use Rattle.cells.specs.Driven.{driverIn};
+ghost use Rattle.rules.specs.Drivers.{driverAt};
 ghost use Rattle.cells.specs.Whole.{Shaped, Sized, Whole};
 use blocks::BLOCK_RECORDS;
 use blocks::BLOCK_SIZE;
 use blocks::HEAD_SIZE;
 use blocks::RECORD_SIZE;
 use rules::Cell;
+use rules::Driver;
 use rules::Net;
 use rules::Position;
 use rules::Record;
@@ -31,12 +32,6 @@ const SPARE_BYTES: usize = BLOCK_SIZE - RECORD_SIZE * BLOCK_RECORDS;
 const NEAR_84TH: usize = 1561;
 
 const NEAR_84TH_OF: usize = 131072;
-
-// A controlled driver with its control cell and its net, or something else.
-pub enum Driver {
-    Of(Position, Net),
-    Nothing,
-}
 
 // The block of cells of position p, counted from 0: p / 84 by one product, since every record read asks for it.
 fn block_of(p: usize) -> usize
@@ -180,10 +175,13 @@ pub fn net_at(file: &[u8], p: usize) -> usize
     blocks::pair(file, record_start(p) + 4) as usize
 }
 
-// The controlled driver that a cell is.
-pub fn driver_of(cell: Cell) -> Driver
-    ensures { λ r. ⌜ r ≡ driverIn cell ⌝ }
+// What the cell at position p of a whole file drives: the one place that knows which kinds of cells are
+// drivers, and of which control cell.
+pub fn driver_at(file: &[u8], p: usize) -> Driver
+    requires { ⌜ Whole (now file) p ⌝ }
+    ensures { λ r. ⌜ r ≡ driverAt (boardOf (now (file .entry))) p ⌝ }
 {
+    let cell = cell_at(file, p);
     match cell {
         Cell::Internal => Driver::Nothing,
         Cell::Input(_) => Driver::Nothing,

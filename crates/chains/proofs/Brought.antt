@@ -14,7 +14,7 @@ use Rattle.rules.specs.declared.Verdict.the-variants.{Accepted}
 use Rattle.rules.proofs.Tests.{left, right, both, or-left, same-test, any-at, any-member, eqb-back}
 use Rattle.rules.proofs.Driving.{driver-output, drives-driver, driver-own, meets-at, meets-net}
 use Rattle.rules.proofs.Shape.{laid, shaped, whole-records}
-use Rattle.rules.proofs.Acceptance.{kept-net}
+use Rattle.rules.proofs.DriverLaws.{kept-net}
 use Rattle.words.specs.Sets.{netWords, nothing, plus}
 use Rattle.chains.specs.Chains.{ControlCell, NetOf, keyed}
 use Rattle.chains.specs.Sharing.{withControl, withControls, withSharers, partnersOf}

@@ -11,16 +11,15 @@ use lib.Dec.{eqb}
 use lib.ListN.{length, getD, set, length-set}
 use lib.Seq.{getD-set-same, getD-set-other}
 use Rattle.rules.specs.Basics.{any}
-use Rattle.rules.specs.File.{Board, boardOf, cellsOf, kindOf, controlOf, netOf, brokenAt}
+use Rattle.rules.specs.File.{Board, boardOf, cellsOf, netOf, brokenAt}
 use Rattle.rules.specs.Drivers.{controlled, controlFor, alwaysOn, onNet, outputOf}
 use Rattle.rules.specs.Refusals.{judge, fileChecks}
 use Rattle.rules.specs.declared.Cell.{Cell}
-use Rattle.rules.specs.declared.Cell.the-variants.{Internal, Input, Control, ThreeState, TwoState}
 use Rattle.rules.specs.declared.Verdict.the-variants.{Accepted}
 use Rattle.rules.proofs.Shape.{whole-records}
-use Rattle.rules.proofs.Acceptance.{kept-control, kept-net}
+use Rattle.rules.proofs.DriverLaws.{isOutput, output-is, kept-control, kept-net}
 use Rattle.rules.proofs.Tests.{decided, fails-if, clashes, below-suc}
-use Rattle.chains.specs.Chains.{By, ControlCell, NetOf, last, keyOf, isKey, keyed, keysOf, Linked}
+use Rattle.chains.specs.Chains.{By, ControlCell, NetOf, last, keyAt, isKey, keyed, keysOf, Linked}
 use Rattle.chains.specs.declared.Key.the-variants.{Of, Nothing}
 
 -- one more number: it is the last where it passes, else the last stays
@@ -79,14 +78,14 @@ linked-none b by heads links h k =
 
 module _ (b : Board) (by : By) (c : ℕ) (heads links : List ℕ) (so-far : Linked b by c heads links) where
   -- a cell with no key changes nothing
-  pub linked-skip : keyOf by (b .cell c) ≡ Nothing → Linked b by (c + 1) heads links
+  pub linked-skip : keyAt b by c ≡ Nothing → Linked b by (c + 1) heads links
   unfolding keyed isKey
   linked-skip e =
       rw (add-one c)
       (record { head = λ k l. so-far .head k l ∙ sym (last-fails c (keyed b by k) (rw e)); link = λ d k l h. ⊎-elim (λ (q : d ≡ c). absurd (false≢true (rw (q, e) at h))) (λ (q : d < c). so-far .link d k q h) (below-suc l); low = so-far .low })
 
   -- a cell with key x: its link is the old head, the new head is the cell
-  pub linked-add : (x : ℕ) → keyOf by (b .cell c) ≡ Of x → x < length heads → c < length links → Linked b by (c + 1) (set heads x (c + 1)) (set links c (getD heads x 0))
+  pub linked-add : (x : ℕ) → keyAt b by c ≡ Of x → x < length heads → c < length links → Linked b by (c + 1) (set heads x (c + 1)) (set links c (getD heads x 0))
   unfolding keyed isKey
   linked-add x e lx lc = rw (add-one c) (record { head = heads-are; link = links-are; low = low-are })
     where
@@ -115,30 +114,20 @@ module _ (b : Board) (by : By) (c : ℕ) (heads links : List ℕ) (so-far : Link
           (below-suc l)
 
 -- a key of a whole file is one of its control cells or nets
-pub key-below : (file : List ℕ) → judge (fileChecks file) ≡ Accepted → (by : By) (c x : ℕ) → c < cellsOf file → keyOf by (boardOf file .cell c) ≡ Of x → x < keysOf file by
-unfolding keyOf keysOf controlled controlFor alwaysOn kindOf controlOf netOf boardOf
-key-below file ok by c x l e = go by (boardOf file .cell c) refl e
+pub key-below : (file : List ℕ) → judge (fileChecks file) ≡ Accepted → (by : By) (c x : ℕ) → c < cellsOf file → keyAt (boardOf file) by c ≡ Of x → x < keysOf file by
+unfolding keyAt keysOf boardOf
+key-below file ok by c x l e = go by e
   where
     whole : (p : ℕ) → p < cellsOf file → brokenAt file p ≡ false
     whole = whole-records file ok
 
-    of : (y : ℕ) → Of y ≡ Of x → y ≡ x
-    of y q = cc
+    picked : (a : Bool) (y : ℕ) → cond a (Of y) Nothing ≡ Of x → (a ≡ true) × (y ≡ x)
+    picked true y q = (refl, cc)
+    picked false y q = let z : _≡_ {A = ℕ} 0 1 = cc in absurd (omega arith)
 
-    never : Nothing ≡ Of x → ⊥
-    never q = let z : _≡_ {A = ℕ} 0 1 = cc in omega arith
-
-    go : (by : By) (cell : Cell) → boardOf file .cell c ≡ cell → keyOf by cell ≡ Of x → x < keysOf file by
-    go ControlCell Internal q h = absurd (never h)
-    go ControlCell (Input n) q h = absurd (never h)
-    go ControlCell (Control on) q h = absurd (never h)
-    go ControlCell (ThreeState k n) q h = rw (← of (k .0) h) (rw q at (kept-control file whole c l (rw q refl) .0))
-    go ControlCell (TwoState n) q h = absurd (never h)
-    go NetOf Internal q h = absurd (never h)
-    go NetOf (Input n) q h = absurd (never h)
-    go NetOf (Control on) q h = absurd (never h)
-    go NetOf (ThreeState k n) q h = rw (← of (n .0) h) (rw q at (kept-net file whole c l (rw q refl)))
-    go NetOf (TwoState n) q h = rw (← of (n .0) h) (rw q at (kept-net file whole c l (rw q refl)))
+    go : (by : By) → keyAt (boardOf file) by c ≡ Of x → x < keysOf file by
+    go ControlCell h = let q = picked _ _ h in rw (← q .1) (kept-control file whole c l (q .0) .0)
+    go NetOf h = let q = picked _ _ h in rw (← q .1) (kept-net file whole c l (q .0))
 
 -- a walk along a chain, looking for a member that passes q: nothing above `at` has
 pub record Walking (p q : ℕ → Bool) (n at : ℕ) : Type 0 where
@@ -179,23 +168,22 @@ module _ (p q : ℕ → Bool) (only : (c : ℕ) → q c ≡ true → p c ≡ tru
 
 -- what the two keys are
 pub keyed-net : (b : Board) (n c : ℕ) → keyed b NetOf n c ≡ outputOf b n c
-unfolding keyed keyOf isKey outputOf onNet controlled alwaysOn kindOf netOf
-keyed-net b n c = go (b .cell c)
+unfolding keyed keyAt isKey outputOf onNet
+keyed-net b n c = go (controlled b c || alwaysOn b c) (netOf (b .cell c))
   where
-    go : (cell : Cell) → isKey (keyOf NetOf cell) n ≡ (eqb (netOf cell) n && (eqb (kindOf cell) 3 || eqb (kindOf cell) 4))
-    go Internal = sym (and-false (eqb (netOf Internal) n))
-    go (Input m) = sym (and-false (eqb (m .0) n))
-    go (Control on) = sym (and-false (eqb (netOf (Control on)) n))
-    go (ThreeState k m) = sym (and-true (eqb (m .0) n))
-    go (TwoState m) = sym (and-true (eqb (m .0) n))
+    go : (a : Bool) (m : ℕ) → isKey (cond a (Of m) Nothing) n ≡ (eqb m n && a)
+    go true m = sym (and-true (eqb m n))
+    go false m = sym (and-false (eqb m n))
 
 pub keyed-control : (b : Board) (k c : ℕ) → keyed b ControlCell k c ≡ (controlled b c && eqb (controlFor b c) k)
-unfolding keyed keyOf isKey controlled controlFor kindOf controlOf
-keyed-control b k c = go (b .cell c)
+unfolding keyed keyAt isKey
+keyed-control b k c = go (controlled b c) (controlFor b c)
   where
-    go : (cell : Cell) → isKey (keyOf ControlCell cell) k ≡ (eqb (kindOf cell) 3 && eqb (controlOf cell) k)
-    go Internal = refl
-    go (Input m) = refl
-    go (Control on) = refl
-    go (ThreeState j m) = refl
-    go (TwoState m) = refl
+    go : (a : Bool) (j : ℕ) → isKey (cond a (Of j) Nothing) k ≡ (a && eqb j k)
+    go true j = refl
+    go false j = refl
+
+-- the net of the output that was found at c, if it is one
+pub output-key : (b : Board) (c : ℕ) (found cell : Cell) → found ≡ b .cell c → found ≡ cell → cond (isOutput cell) (Of (netOf cell)) Nothing ≡ keyAt b NetOf c
+unfolding keyAt
+output-key b c found cell e f = let q = sym e ∙ f in rw (output-is b c cell q, q)

@@ -7,20 +7,20 @@ use native.Mathlib.Omega.{arith}
 use borrow.Author.Tests.{eqb-true, lt-ltb, ltb-true}
 use lib.Dec.{eqb, ltb}
 use Rattle.rules.specs.File.{Board, boardOf}
+use Rattle.rules.specs.Drivers.{driverAt}
 use Rattle.rules.specs.declared.Position.{Position}
 use Rattle.rules.specs.declared.Net.{Net}
 use Rattle.rules.proofs.Tests.{left, right, both, fails-if, same-test, eqb-back}
 use Rattle.rules.proofs.Shape.{laid, shaped}
 use Rattle.words.specs.Sets.{netWords, cellWords, plus}
-use Rattle.cells.specs.Driven.{driverIn}
 use Rattle.cells.specs.Whole.{Whole}
 use Rattle.chains.specs.Sharing.{withControl, withSharers, withControls}
-use Rattle.cells.specs.declared.Driver.the-variants.{Of, Nothing}
-use Rattle.cells.proofs.DrivenLaws.{is-driver, no-driver, net-below, control-below}
+use Rattle.rules.specs.declared.Driver.the-variants.{Of, Nothing}
+use Rattle.rules.proofs.DriverLaws.{is-driver, no-driver, net-below, control-below}
 
 module _ (b : Board) (c : ℕ) (f : ℕ → Bool) where
   -- a cell that drives nothing brings nothing
-  module _ (e : driverIn (b .cell c) ≡ Nothing) where
+  module _ (e : driverAt b c ≡ Nothing) where
     pub no-control : (low : ℕ) → f ≡ withControl b low c f
     unfolding withControl
     no-control low = fun-ext (λ j. rw (no-driver b c e))
@@ -30,7 +30,7 @@ module _ (b : Board) (c : ℕ) (f : ℕ → Bool) where
     no-sharers low = fun-ext (λ j. rw (no-driver b c e))
 
   -- a driver brings its net, its control cell, and its net's control cells
-  module _ (k : Position) (n : Net) (e : driverIn (b .cell c) ≡ Of k n) where
+  module _ (k : Position) (n : Net) (e : driverAt b c ≡ Of k n) where
     -- its control cell, where that is above low
     control-at : (low j : ℕ) → withControl b low c f j ≡ (eqb (k .0) j && ltb low j || f j)
     unfolding withControl
@@ -49,7 +49,7 @@ module _ (b : Board) (c : ℕ) (f : ℕ → Bool) where
     its-sharers low = fun-ext (λ j. rw (is-driver b c k n e .0, is-driver b c k n e .2))
 
 -- on a whole file they fit
-module _ (file : List ℕ) (c : ℕ) (w : Whole file c) (k : Position) (n : Net) (e : driverIn (boardOf file .cell c) ≡ Of k n) where
+module _ (file : List ℕ) (c : ℕ) (w : Whole file c) (k : Position) (n : Net) (e : driverAt (boardOf file) c ≡ Of k n) where
   pub net-fits : n .0 < 64 * netWords
   net-fits =
       let b = net-below file (w .checked) c (w .below) k n e in

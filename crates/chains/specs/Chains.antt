@@ -2,14 +2,13 @@
 -- are 1 + a position, and 0 is none.
 use Prim.Native.Nat.{ℕ, zero, suc, _<_, _≤_}
 use mathlib.Core.Path.{_≡_}
-use mathlib.Core.Bool.{Bool, true, false, cond}
+use mathlib.Core.Bool.{Bool, true, false, cond, _||_}
 use mathlib.Core.List.{List}
 use lib.Dec.{eqb}
 use lib.ListN.{length, getD}
-use Rattle.rules.specs.File.{Board, boardOf, cellsOf, netsOf}
+use Rattle.rules.specs.File.{Board, boardOf, cellsOf, netsOf, netOf}
+use Rattle.rules.specs.Drivers.{controlled, controlFor, alwaysOn}
 use Rattle.rules.specs.Refusals.{judge, fileChecks, mostCells}
-use Rattle.rules.specs.declared.Cell.{Cell}
-use Rattle.rules.specs.declared.Cell.the-variants.{Internal, Input, Control, ThreeState, TwoState}
 use Rattle.rules.specs.declared.Verdict.the-variants.{Accepted}
 use Rattle.chains.specs.declared.Key.{Key}
 use Rattle.chains.specs.declared.Key.the-variants.{Of, Nothing}
@@ -24,18 +23,10 @@ unfoldable pub last : ℕ → (ℕ → Bool) → ℕ
 last zero p = 0
 last (suc n) p = cond (p n) (suc n) (last n p)
 
--- the key of a cell: an output's control cell, or its net
-unfoldable pub keyOf : By → Cell → Key
-keyOf ControlCell Internal = Nothing
-keyOf ControlCell (Input n) = Nothing
-keyOf ControlCell (Control on) = Nothing
-keyOf ControlCell (ThreeState k n) = Of (k .0)
-keyOf ControlCell (TwoState n) = Nothing
-keyOf NetOf Internal = Nothing
-keyOf NetOf (Input n) = Nothing
-keyOf NetOf (Control on) = Nothing
-keyOf NetOf (ThreeState k n) = Of (n .0)
-keyOf NetOf (TwoState n) = Of (n .0)
+-- the key of the cell at c: a driver's control cell, or an output's net
+unfoldable pub keyAt : Board → By → ℕ → Key
+keyAt b ControlCell c = cond (controlled b c) (Of (controlFor b c)) Nothing
+keyAt b NetOf c = cond (controlled b c || alwaysOn b c) (Of (netOf (b .cell c))) Nothing
 
 unfoldable pub isKey : Key → ℕ → Bool
 isKey (Of x) k = eqb x k
@@ -43,7 +34,7 @@ isKey Nothing k = false
 
 -- the cell at c has key k
 unfoldable pub keyed : Board → By → ℕ → ℕ → Bool
-keyed b by k c = isKey (keyOf by (b .cell c)) k
+keyed b by k c = isKey (keyAt b by c) k
 
 -- the chains of the positions below n
 pub record Linked (b : Board) (by : By) (n : ℕ) (heads links : List ℕ) : Type 0 where

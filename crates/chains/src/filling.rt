@@ -5,9 +5,8 @@ ghost use Rattle.chains.specs.Filling.{Entered, Fillable, Filled};
 use crate::Key;
 use crate::link;
 use crate::net_key;
-use cells::Driver;
-use cells::cell_at;
-use cells::driver_of;
+use cells::driver_at;
+use rules::Driver;
 
 // The chains and counts of the positions below c, grown by c.
 fn enter(
@@ -23,13 +22,12 @@ fn enter(
     requires { ⌜ c < cellsOf (now file) ⌝ }
     ensures { λ r. ⌜ Entered (now (file .entry)) (c + 1) (now (heads .exit)) (now (links .exit)) (now («net_heads» .exit)) (now («net_links» .exit)) (now (counts .exit)) ⌝ }
 {
-    let cell = cell_at(file, c);
-    let output = net_key(cell);
+    let driver = driver_at(file, c);
+    let output = net_key(file, c);
     let Key::Of(n) = output else {
         return;
     };
     link(c, n, net_heads, net_links);
-    let driver = driver_of(cell);
     let Driver::Of(k, _) = driver else {
         return;
     };

@@ -3,7 +3,10 @@
 ghost use mathlib.Core.Path.{_≡_};
 ghost use Prim.Native.Nat.{_+_, _<_};
 ghost use lib.ListN.{length, getD, set};
-ghost use Rattle.chains.specs.Chains.{NetOf, keyOf, Linkable};
+ghost use Rattle.rules.specs.File.{boardOf};
+ghost use Rattle.chains.specs.Chains.{NetOf, keyAt, Linkable};
+ghost use Rattle.cells.specs.Whole.{Whole};
+use cells::cell_at;
 use rules::Cell;
 
 pub mod filling;
@@ -23,10 +26,12 @@ pub fn held(table: &[u16], i: usize) -> usize
     table[i] as usize
 }
 
-// The net of an output.
-pub(crate) fn net_key(cell: Cell) -> Key
-    ensures { λ r. ⌜ r ≡ keyOf NetOf cell ⌝ }
+// The net of the output at c.
+pub(crate) fn net_key(file: &[u8], c: usize) -> Key
+    requires { ⌜ Whole (now file) c ⌝ }
+    ensures { λ r. ⌜ r ≡ keyAt (boardOf (now (file .entry))) NetOf c ⌝ }
 {
+    let cell = cell_at(file, c);
     match cell {
         Cell::Internal => Key::Nothing,
         Cell::Input(_) => Key::Nothing,

@@ -8,10 +8,9 @@ ghost use Rattle.chains.specs.Chains.{ControlCell, NetOf, Chains};
 ghost use Rattle.chains.specs.Sharing.{withControl, withControls, withSharers, partnersOf};
 ghost use Rattle.cells.specs.Whole.{Whole};
 use crate::held;
-use cells::Driver;
-use cells::cell_at;
-use cells::driver_of;
+use cells::driver_at;
 use cells::net_at;
+use rules::Driver;
 use words::CellSet;
 use words::NET_WORDS;
 use words::NetSet;
@@ -38,7 +37,7 @@ fn add_control(file: &[u8], c: usize, low: usize, set: CellSet) -> CellSet
     requires { ⌜ Whole (now file) c ⌝ }
     ensures { λ r. ⌜ member (r .words) ≡ withControl (boardOf (now (file .entry))) low c (member (set .words)) ⌝ }
 {
-    let driver = driver_of(cell_at(file, c));
+    let driver = driver_at(file, c);
     let Driver::Of(k, _) = driver else {
         return set;
     };
@@ -83,7 +82,7 @@ fn add_sharers(
     requires { ⌜ c < cellsOf (now file) ⌝ }
     ensures { λ r. ⌜ member (r .words) ≡ withSharers (boardOf (now (file .entry))) low c (member (met .words)) ⌝ }
 {
-    let driver = driver_of(cell_at(file, c));
+    let driver = driver_at(file, c);
     let Driver::Of(_, n) = driver else {
         return met;
     };

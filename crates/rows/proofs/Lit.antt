@@ -7,7 +7,7 @@ use native.Mathlib.Omega.{arith}
 use borrow.Author.Tests.{le-ltb}
 use Rattle.rules.specs.Answers.{over}
 use Rattle.rules.specs.Basics.{rowOf}
-use Rattle.rules.specs.File.{Board, boardOf, cellsOf, netOf, kindOf}
+use Rattle.rules.specs.File.{Board, boardOf, cellsOf, netOf}
 use Rattle.rules.specs.Drivers.{controlled, alwaysOn}
 use Rattle.rules.specs.Groups.{onIn}
 use Rattle.rules.specs.Refusals.{judge, fileChecks}
@@ -15,7 +15,7 @@ use Rattle.rules.specs.Vectors.{Vector, cellBit, vectorRow}
 use Rattle.rules.specs.declared.Cell.{Cell}
 use Rattle.rules.specs.declared.Cell.the-variants.{Internal, Input, Control, ThreeState, TwoState}
 use Rattle.rules.specs.declared.Verdict.the-variants.{Accepted}
-use Rattle.rules.proofs.Acceptance.{kept-net}
+use Rattle.rules.proofs.DriverLaws.{output-is, kept-net}
 use Rattle.rules.proofs.Shape.{laid, shaped, whole-records}
 use Rattle.words.specs.Sets.{netWords, upTo}
 use Rattle.rows.specs.Rows.{placed, Cells}
@@ -32,15 +32,15 @@ module _ (file : List ℕ) (ok : judge (fileChecks file) ≡ Accepted) (c : ℕ)
       omega arith
 
   pub out-net-low : outNet (boardOf file .cell c) < 64 * netWords
-  unfolding outNet controlled alwaysOn kindOf netOf
+  unfolding outNet netOf
   out-net-low = go (boardOf file .cell c) refl
     where
       go : (cell : Cell) → boardOf file .cell c ≡ cell → outNet cell < 64 * netWords
       go Internal e = omega arith
       go (Input n) e = omega arith
       go (Control on) e = omega arith
-      go (ThreeState k n) e = let h = below (rw e) in rw e at h
-      go (TwoState n) e = let h = below (rw e) in rw e at h
+      go (ThreeState k n) e = let h = below (output-is _ c _ e) in rw e at h
+      go (TwoState n) e = let h = below (output-is _ c _ e) in rw e at h
 
 -- the definition's bit
 bit-is : (b : Board) (v : Vector) (c : ℕ) (cell : Cell) → bitOf (onIn b (v .group) c) (v .value) cell ≡ cellBit b v c cell

@@ -1,20 +1,19 @@
 -- What checks 1 to 9 leave of a file, as facts about its board's nets and cells: each later theorem starts from these and opens no check
 -- again.
 use Prim.Native.Nat.{ℕ, _<_, _≤_}
-use mathlib.Core.Path.{_≡_, sym, _∙_}
-use mathlib.Core.Logic.{_⊎_, ⊎-elim}
+use mathlib.Core.Path.{_≡_}
 use mathlib.Core.Bool.{true, false, _&&_, _||_}
 use mathlib.Core.List.{List}
 use native.Mathlib.Omega.{arith}
-use borrow.Author.Tests.{eqb-true, eq-eqb, ltb-true, ltb-false, leb-true}
-use lib.Dec.{ltb, leb}
+use borrow.Author.Tests.{ltb-false, leb-true}
+use lib.Dec.{leb}
 use Rattle.rules.specs.Basics.{any}
-use Rattle.rules.specs.File.{Board, boardOf, netOf, kindAt, controlAt, cellsOf, netsOf, limitOf, ofKind2, brokenAt}
+use Rattle.rules.specs.File.{Board, boardOf, netOf, cellsOf, netsOf, limitOf}
 use Rattle.rules.specs.Drivers.{controlled, controlFor, isControl, alwaysOn, outputOf, drivers}
 use Rattle.rules.specs.Refusals.{judge, mostDrivers, mostCells, mostNets, mostLimit, within, outside, undriven, clash, clashing, crowded, shapeChecks, fileChecks, netChecks, earlyChecks}
 use Rattle.rules.specs.declared.Verdict.the-variants.{Accepted}
-use Rattle.rules.proofs.Tests.{left, right, or-cases, passes-not, any-none}
-use Rattle.rules.proofs.Records.{SaysAt, record-says}
+use Rattle.rules.proofs.Tests.{left, right, passes-not, any-none}
+use Rattle.rules.proofs.DriverLaws.{kept-control, kept-net}
 use Rattle.rules.proofs.Verdicts.{all-pass}
 
 -- what checks 1 to 9 leave
@@ -31,31 +30,6 @@ pub record Early (b : Board) : Type 0 where
   pub no-clash : (n c d : ℕ) → n < b .nets → c < b .size → d < b .size → clash b n c d ≡ false
   -- and no net is crowded
   pub few : (n : ℕ) → n < b .nets → drivers b n ≤ mostDrivers
-
-module _ (file : List ℕ) (whole : (p : ℕ) → p < cellsOf file → brokenAt file p ≡ false) where
-  says : (p : ℕ) → p < cellsOf file → SaysAt file p (boardOf file .cell p)
-  unfolding boardOf brokenAt
-  says p l = record-says file p (whole p l)
-
-  pub kept-control : (c : ℕ) → c < boardOf file .size → controlled (boardOf file) c ≡ true → (controlFor (boardOf file) c < boardOf file .size) × (isControl (boardOf file) (controlFor (boardOf file) c) ≡ true)
-  unfolding boardOf controlled controlFor isControl ofKind2
-  kept-control c l h =
-      let s = says c l in
-      let k : kindAt file c ≡ 3 = sym (s .kind-is) ∙ eqb-true _ _ h in
-      let t : ofKind2 file (controlAt file c) ≡ true = s .has-control (rw k) in
-      let m = ltb-true _ _ (left (ltb (controlAt file c) (cellsOf file)) _ t) in
-      rw (s .control-is)
-      (m, eq-eqb _ _ (says (controlAt file c) m .kind-is ∙ eqb-true _ _ (right (ltb (controlAt file c) (cellsOf file)) t)))
-
-  pub kept-net : (c : ℕ) → c < boardOf file .size → (controlled (boardOf file) c || alwaysOn (boardOf file) c) ≡ true → netOf (boardOf file .cell c) < boardOf file .nets
-  unfolding boardOf controlled alwaysOn
-  kept-net c l h =
-      let s = says c l in
-      rw (s .net-is)
-      (⊎-elim
-      (λ o. let k : kindAt file c ≡ 3 = sym (s .kind-is) ∙ eqb-true _ _ o in ltb-true _ _ (s .has-net (rw k)))
-      (λ o. let k : kindAt file c ≡ 4 = sym (s .kind-is) ∙ eqb-true _ _ o in ltb-true _ _ (s .has-net (rw k)))
-      (or-cases (controlled (boardOf file) c) h))
 
 -- "within its limits" from check 4
 limit-within : (most n : ℕ) → within most n ≡ true → (0 < n) × (n ≤ most)

@@ -1,15 +1,15 @@
 -- Laws of drivers and net sets: a control cell's nets and its drivers there, how two net sets lie, and what a net without clashes has.
 use Prim.Native.Nat.{ℕ, _<_}
-use mathlib.Core.Path.{_≡_, refl, ap}
+use mathlib.Core.Path.{_≡_, refl}
 use mathlib.Core.Logic.{_⊎_, ⊎-elim}
 use mathlib.Core.Bool.{true, false, not}
-use native.Mathlib.Omega.{arith}
 use borrow.Author.Tests.{eqb-true, eq-eqb}
 use lib.Dec.{eqb}
-use Rattle.rules.specs.File.{Board, kindOf, netOf}
+use Rattle.rules.specs.File.{Board, netOf}
 use Rattle.rules.specs.Drivers.{controlled, controlFor, alwaysOn, onNet, outputOf, driverOf, drives, drivers, outputs, meets, inside}
 use Rattle.rules.specs.Refusals.{clash}
 use Rattle.rules.proofs.Tests.{left, right, or-left, or-right, or-cases, or-neither, not-fails, fails-not, passes-not, clashes, any-at, any-member, any-none, all-at, all-fails, both, passes-if, same-test, count-same}
+use Rattle.rules.proofs.DriverLaws.{not-both}
 use Rattle.rules.proofs.Acceptance.{Early}
 
 -- a control cell's net set, and how two lie
@@ -51,12 +51,7 @@ not-included b i j h f =
 
 -- an output is never controlled and always on
 pub kinds-differ : (b : Board) (c d : ℕ) → alwaysOn b c ≡ true → controlled b d ≡ true → c ≡ d → ⊥
-unfolding alwaysOn controlled
-kinds-differ b c d x y e =
-    let p = eqb-true (kindOf (b .cell c)) 4 x in
-    let q = eqb-true (kindOf (b .cell d)) 3 y in
-    let r = ap (λ (i : ℕ). kindOf (b .cell i)) e in
-    omega arith
+kinds-differ b c d x y e = not-both b d (rw e at x) y
 
 -- a controlled driver of a net is an output of it
 pub driver-output : (b : Board) (n c : ℕ) → driverOf b n c ≡ true → outputOf b n c ≡ true

@@ -8,6 +8,7 @@ pub mod Verdicts
 pub mod Searching
 pub mod Records
 pub mod Shape
+pub mod DriverLaws
 pub mod Acceptance
 pub mod Counting
 pub mod Driving

@@ -6,12 +6,11 @@ use mathlib.Core.Bool.{Bool, true, false, cond, not, _&&_, _||_}
 use mathlib.Core.List.{List}
 use native.Mathlib.Nat.{mul-zero, div-lt-iff-lt-mul, mul-div-cancel, mul-lt-mul-of-pos-right}
 use native.Mathlib.Omega.{arith}
-use borrow.Author.Tests.{eqb-true}
 use lib.Dec.{eqb}
 use lib.ListN.{length, getD}
 use Rattle.rules.specs.Basics.{digit, bit, count}
 use Rattle.rules.specs.File.{Board, boardOf, kindOf, onValueOf}
-use Rattle.rules.specs.Drivers.{controlled, controlFor, isControl, alwaysOn, onNet, outputOf, drives, groupsOf}
+use Rattle.rules.specs.Drivers.{controlled, controlFor, alwaysOn, onNet, outputOf, drives, groupsOf}
 use Rattle.rules.specs.Groups.{onIn}
 use Rattle.rules.specs.Vectors.{Vector, basesOf, widthOf, between, insertedAfter, weave, stepsOf, vectorOf, planOf, totalOf, vectorAt, cellBit, vectorRow}
 use Rattle.rules.specs.Refusals.{judge, boardChecks}
@@ -23,6 +22,7 @@ use Rattle.rules.proofs.Tests.{count-same}
 use Rattle.rules.proofs.Digits.{row-bit, length-table, table-at}
 use Rattle.rules.proofs.Codes.{width-least}
 use Rattle.rules.proofs.Weaving.{weave-each, weave-at-base, weave-fits}
+use Rattle.rules.proofs.DriverLaws.{control-kind}
 use Rattle.rules.proofs.Requirement.{ControlCell}
 use Rattle.rules.proofs.Selection.{Sound, sound}
 use Rattle.rules.proofs.Turns.{live, group-drives-once, idle-off}
@@ -52,10 +52,10 @@ control-bit b v k (TwoState n) e = absurd (omega arith)
 
 -- that is the case exactly where the vector's group turns it on
 pub row-on : (b : Board) (v : Vector) (k : ℕ) → ControlCell b k → rowOn b (vectorRow b v) k ≡ onIn b (v .group) k
-unfolding vectorRow isControl
+unfolding vectorRow
 row-on b v k x =
     ap (λ (a : Bool). eqb (digit a) (onValueOf (b .cell k))) (row-bit (b .size) (λ c. cellBit b v c (b .cell c)) k (x .on-board))
-    ∙ control-bit b v k (b .cell k) (eqb-true _ _ (x .is-control))
+    ∙ control-bit b v k (b .cell k) (control-kind b k (x .is-control))
 
 -- a vector's outputs are on by its row as by its group
 live-same : (b : Board) → Sound b → (v : Vector) (n c : ℕ) → c < b .size → live b (rowOn b (vectorRow b v)) n c ≡ live b (onIn b (v .group)) n c

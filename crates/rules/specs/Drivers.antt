@@ -1,18 +1,43 @@
--- Who drives what: outputs, control cells and their net sets, the drivers of a net. The three definitions that say what a controlled
--- driver is, which control cell it belongs to and what counts as a control cell are opened by their own laws alone. Assumes nothing.
+-- Who drives what: outputs, control cells and their net sets, the drivers of a net. What the cell at a position drives is said once, by
+-- driverAt; it, what is read off it and what counts as a control cell are opened by their own laws alone (DriverLaws). Assumes nothing.
 use Prim.Native.Nat.{ℕ, max}
-use mathlib.Core.Bool.{Bool, not, _&&_, _||_}
+use mathlib.Core.Bool.{Bool, true, false, not, _&&_, _||_}
 use lib.Dec.{eqb}
 use Rattle.rules.specs.Basics.{any, all, count, largest}
-use Rattle.rules.specs.File.{Board, kindOf, controlOf, netOf}
+use Rattle.rules.specs.File.{Board, none, kindOf, netOf}
+use Rattle.rules.specs.declared.Cell.{Cell}
+use Rattle.rules.specs.declared.Cell.the-variants.{Internal, Input, Control, ThreeState, TwoState}
+use Rattle.rules.specs.declared.Driver.{Driver}
+use Rattle.rules.specs.declared.Driver.the-variants.{Of, Nothing}
 
--- "three-state output": a driver that a control cell switches
+-- what this cell drives at position c: a "three-state output" is a driver of the control cell that its record names
+unfoldable pub driverIn : ℕ → Cell → Driver
+driverIn c Internal = Nothing
+driverIn c (Input n) = Nothing
+driverIn c (Control on) = Nothing
+driverIn c (ThreeState k n) = Of k n
+driverIn c (TwoState n) = Nothing
+
+-- what the cell at c drives
+unfoldable pub driverAt : Board → ℕ → Driver
+driverAt b c = driverIn c (b .cell c)
+
+-- a driver has a control cell; "65,535 means none"
+unfoldable pub isDriver : Driver → Bool
+isDriver (Of k n) = true
+isDriver Nothing = false
+
+unfoldable pub controlIn : Driver → ℕ
+controlIn (Of k n) = k .0
+controlIn Nothing = none
+
+-- the cell at c is a driver that a control cell switches
 unfoldable pub controlled : Board → ℕ → Bool
-controlled b c = eqb (kindOf (b .cell c)) 3
+controlled b c = isDriver (driverAt b c)
 
 -- the control cell that the driver at c belongs to
 unfoldable pub controlFor : Board → ℕ → ℕ
-controlFor b c = controlOf (b .cell c)
+controlFor b c = controlIn (driverAt b c)
 
 -- "control": what counts as a control cell
 unfoldable pub isControl : Board → ℕ → Bool

@@ -22,6 +22,13 @@ pub enum Cell {
     TwoState(Net),
 }
 
+// What the cell at a position drives: a controlled driver with its control cell and its net, or nothing
+// that a control cell switches.
+pub enum Driver {
+    Of(Position, Net),
+    Nothing,
+}
+
 // What a record says: a cell, or nothing that the table allows.
 pub enum Record {
     Means(Cell),

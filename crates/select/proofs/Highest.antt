@@ -12,19 +12,18 @@ use borrow.Author.Tests.{eqb-true, eqb-false, eq-eqb}
 use lib.Dec.{eqb}
 use lib.ListN.{getD}
 use Rattle.rules.specs.File.{Board, boardOf, cellsOf, netOf}
-use Rattle.rules.specs.Drivers.{controlled, controlFor, meets}
+use Rattle.rules.specs.Drivers.{driverAt, controlled, controlFor, meets}
 use Rattle.rules.specs.Groups.{marked, turn, pass}
 use Rattle.rules.specs.declared.Net.{Net}
 use Rattle.rules.specs.declared.Position.{Position}
 use Rattle.rules.proofs.Tests.{left, right, both, or-left, or-right, below-suc}
 use Rattle.rules.proofs.Passes.{open-at}
 use Rattle.rules.proofs.Selection.{Sound, degrees-equal}
-use Rattle.cells.specs.declared.Driver.the-variants.{Of, Nothing}
+use Rattle.rules.specs.declared.Driver.the-variants.{Of, Nothing}
 use Rattle.chains.specs.Chains.{ControlCell, last, keyed, keysOf}
-use Rattle.cells.specs.Driven.{driverIn}
 use Rattle.chains.proofs.Chaining.{last-le, last-member, keyed-control}
 use Rattle.rules.proofs.Driving.{driver-own}
-use Rattle.cells.proofs.DrivenLaws.{is-driver, no-driver, control-below}
+use Rattle.rules.proofs.DriverLaws.{is-driver, no-driver, control-below}
 use Rattle.chains.proofs.Walks.{cell-in}
 use Rattle.select.specs.declared.turns.Pass.{Pass}
 use Rattle.select.specs.Turns.{wantedAt, wantedIn, Ready}
@@ -143,11 +142,11 @@ heads-of file heads links counts ready =
     let ch = ready .by-control in
     record { checked = ch .checked; long = ch .keys; head = λ k l. ch .linked .head k (cell-in file heads links k ch l) }
 
-pub highest-none : (b : Board) (c : ℕ) → driverIn (b .cell c) ≡ Nothing → false ≡ highest b c
+pub highest-none : (b : Board) (c : ℕ) → driverAt b c ≡ Nothing → false ≡ highest b c
 unfolding highest
 highest-none b c e = rw (no-driver b c e)
 
-pub highest-told : (file heads : List ℕ) (h : Heads file heads) (c : ℕ) (l : c < cellsOf file) (k : Position) (n : Net) (e : driverIn (boardOf file .cell c) ≡ Of k n) (held : ℕ) → held ≡ getD heads (k .0) 0 → eqb held (c + 1) ≡ highest (boardOf file) c
+pub highest-told : (file heads : List ℕ) (h : Heads file heads) (c : ℕ) (l : c < cellsOf file) (k : Position) (n : Net) (e : driverAt (boardOf file) c ≡ Of k n) (held : ℕ) → held ≡ getD heads (k .0) 0 → eqb held (c + 1) ≡ highest (boardOf file) c
 unfolding highest boardOf
 highest-told file heads h c l k n e held w =
     let d = is-driver (boardOf file) c k n e in

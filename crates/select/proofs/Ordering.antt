@@ -1,5 +1,6 @@
 -- The highest drivers in a table: how they are filled in, that there is room for all, and that the pass over them is the pass. The idea of
--- the room: a control cell is no driver and has one highest driver, so at most half of the cells are highest drivers.
+-- the room: a control cell is no driver (control-no-driver, which request [3] breaks) and has one highest driver, so at most half of the cells are
+-- highest drivers.
 use Prim.Native.Nat.{ℕ, zero, suc, _+_, _-_, _<_, _≤_}
 use mathlib.Core.Path.{_≡_, refl, _∙_, ap, ap₂, subst}
 use mathlib.Core.Logic.{⊎-elim}
@@ -13,14 +14,14 @@ use lib.Dec.{eqb}
 use lib.ListN.{length, getD, set, length-set}
 use lib.Seq.{getD-set-same, getD-set-other}
 use Rattle.rules.specs.Basics.{any, count, digit}
-use Rattle.rules.specs.File.{Board, boardOf, cellsOf, kindOf}
-use Rattle.rules.specs.Drivers.{controlled, controlFor, isControl}
+use Rattle.rules.specs.File.{Board, boardOf, cellsOf}
+use Rattle.rules.specs.Drivers.{controlled, controlFor}
 use Rattle.rules.specs.Groups.{turn, pass}
 use Rattle.rules.specs.Refusals.{judge, fileChecks}
 use Rattle.rules.specs.declared.Verdict.the-variants.{Accepted}
 use Rattle.rules.proofs.Tests.{left, right, both, not-fails, fails-if, below-suc, any-at, any-member, count-le, count-more, count-split}
 use Rattle.rules.proofs.Counting.{Onto, count-onto}
-use Rattle.rules.proofs.Acceptance.{kept-control}
+use Rattle.rules.proofs.DriverLaws.{control-no-driver, kept-control}
 use Rattle.rules.proofs.Shape.{laid, shaped, whole-records}
 use Rattle.rules.proofs.Selection.{sound}
 use Rattle.chains.specs.Chains.{ControlCell, last, keyed}
@@ -36,14 +37,6 @@ unfolding count
 count-upto zero c p l = let e : c ≡ 0 = omega arith in rw e (omega arith)
 count-upto (suc n) c p l =
     ⊎-elim (λ (e : c ≡ suc n). rw e (omega arith)) (λ (m : c < suc n). let r = count-upto n c p (omega arith) in omega arith) (eq-or-lt-of-le l)
-
--- a control cell is no driver
-apart : (b : Board) (k : ℕ) → isControl b k ≡ true → controlled b k ≡ true → ⊥
-unfolding isControl controlled
-apart b k x y =
-    let p = eqb-true (kindOf (b .cell k)) 2 x in
-    let q = eqb-true (kindOf (b .cell k)) 3 y in
-    omega arith
 
 module _ (file : List ℕ) (ok : judge (fileChecks file) ≡ Accepted) where
   -- the control cells that have a highest driver
@@ -70,7 +63,7 @@ module _ (file : List ℕ) (ok : judge (fileChecks file) ≡ Accepted) where
       let x = left (highest (boardOf file) (c .0)) _ (c .2) in
       let own = kept-control file (whole-records file ok) (c .0) (c .1) (left (controlled (boardOf file) (c .0)) _ x) .1 in
       let is : controlFor (boardOf file) (c .0) ≡ k = eqb-true _ _ (right (highest (boardOf file) (c .0)) (c .2)) in
-      not-fails {a = highest (boardOf file) k} (fails-if (highest (boardOf file) k) (λ y. apart (boardOf file) k (rw is at own) (left (controlled (boardOf file) k) (eqb (last (cellsOf file) (keyed (boardOf file) ControlCell (controlFor (boardOf file) k))) (suc k)) y)))
+      not-fails {a = highest (boardOf file) k} (fails-if (highest (boardOf file) k) (λ y. control-no-driver (boardOf file) k (rw is at own) (left (controlled (boardOf file) k) (eqb (last (cellsOf file) (keyed (boardOf file) ControlCell (controlFor (boardOf file) k))) (suc k)) y)))
 
   pub highest-few : count (cellsOf file) (highest (boardOf file)) ≤ mostHighest
   highest-few =

@@ -9,16 +9,15 @@ use lib.Dec.{eqb}
 use lib.ListN.{getD}
 use Rattle.rules.specs.Basics.{has}
 use Rattle.rules.specs.File.{Board, boardOf, cellsOf, netsOf, netOf}
-use Rattle.rules.specs.Drivers.{controlled, drives}
+use Rattle.rules.specs.Drivers.{driverAt, controlled, drives}
 use Rattle.rules.specs.Groups.{marked, turn, pass, firstPass, secondPass, selected, earlier, group, onIn}
 use Rattle.rules.specs.declared.Net.{Net}
 use Rattle.rules.specs.declared.Position.{Position}
 use Rattle.rules.proofs.Shape.{laid, shaped}
 use Rattle.rules.proofs.Passes.{has-append}
 use Rattle.words.specs.Sets.{netWords, member, nothing, either, plus, meetsIn}
-use Rattle.cells.specs.declared.Driver.the-variants.{Of, Nothing}
-use Rattle.cells.specs.Driven.{driverIn}
-use Rattle.cells.proofs.DrivenLaws.{is-driver, no-driver, net-below}
+use Rattle.rules.specs.declared.Driver.the-variants.{Of, Nothing}
+use Rattle.rules.proofs.DriverLaws.{is-driver, no-driver, net-below}
 use Rattle.chains.proofs.Brought.{known-net}
 use Rattle.select.specs.declared.turns.Pass.{Pass}
 use Rattle.select.specs.declared.turns.Pass.the-variants.{First, Second}
@@ -63,11 +62,11 @@ cond-not x y false = refl
 
 -- what one position does, by what stands there
 module _ (b : Board) (wanted allowed : ℕ → Bool) (c : ℕ) (on : List ℕ) where
-  pub turn-none : driverIn (b .cell c) ≡ Nothing → on ≡ turn b wanted allowed c on
+  pub turn-none : driverAt b c ≡ Nothing → on ≡ turn b wanted allowed c on
   unfolding turn
   turn-none e = rw (no-driver b c e)
 
-  module _ (k : Position) (n : Net) (e : driverIn (b .cell c) ≡ Of k n) where
+  module _ (k : Position) (n : Net) (e : driverAt b c ≡ Of k n) where
     -- its test: the net is wanted, the control cell allowed and unmarked
     turn-is : turn b wanted allowed c on ≡ cond (wanted (n .0) && allowed (k .0) && not (marked b on (k .0))) (k .0 ∷ on) on
     unfolding turn
@@ -87,7 +86,7 @@ module _ (b : Board) (wanted allowed : ℕ → Bool) (c : ℕ) (on : List ℕ) w
     turn-joins w a m = sym (turn-is ∙ rw (w, a, m) (cond-not (k .0 ∷ on) on (reached b on (k .0))))
 
 -- what the tables and the sets say of a driver of an accepted board
-module _ (file heads links counts : List ℕ) (ready : Ready file heads links counts) (c : ℕ) (l : c < cellsOf file) (k : Position) (n : Net) (e : driverIn (boardOf file .cell c) ≡ Of k n) where
+module _ (file heads links counts : List ℕ) (ready : Ready file heads links counts) (c : ℕ) (l : c < cellsOf file) (k : Position) (n : Net) (e : driverAt (boardOf file) c ≡ Of k n) where
   pub wanted-told : (which : Pass) (g held : ℕ) (r a : Bool) → held ≡ getD counts (n .0) 0 → r ≡ wantedAt which g held → r ≡ a → wantedIn (boardOf file) which g (n .0) ≡ a
   unfolding wantedIn
   wanted-told which g held r a h w t =

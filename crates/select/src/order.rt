@@ -4,13 +4,12 @@ ghost use Prim.Native.Nat.{_+_, _<_};
 ghost use Rattle.rules.specs.File.{boardOf, cellsOf};
 ghost use Rattle.chains.specs.Filling.{Zero};
 ghost use Rattle.select.specs.Highest.{highest, mostHighest, Heads, Ordered, Order};
-use cells::Driver;
-use cells::cell_at;
-use cells::driver_of;
+use cells::driver_at;
 use chains::held;
+use rules::Driver;
 
 // At most half of the cells are highest drivers: each has a control cell of its own, and that is no
-// driver.
+// driver. (Request [3] breaks this: an open-drain output is its own control cell.)
 pub const MOST_HIGHEST: usize = 512;
 
 // The cell at c is the highest driver of its control cell.
@@ -19,7 +18,7 @@ fn is_highest(file: &[u8], heads: &[u16], c: usize) -> bool
     requires { ⌜ c < cellsOf (now file) ⌝ }
     ensures { λ r. ⌜ r ≡ highest (boardOf (now (file .entry))) c ⌝ }
 {
-    let driver = driver_of(cell_at(file, c));
+    let driver = driver_at(file, c);
     let Driver::Of(k, _) = driver else {
         return false;
     };

@@ -8,11 +8,10 @@ ghost use Rattle.rules.specs.Groups.{turn, pass};
 ghost use Rattle.words.specs.Sets.{cellWords, member};
 ghost use Rattle.select.specs.Turns.{wantedAt, allowedIn, wantedIn, joined, Ready, Holds};
 ghost use Rattle.select.specs.Highest.{Order};
-use cells::Driver;
-use cells::cell_at;
-use cells::driver_of;
+use cells::driver_at;
 use chains::held;
 use chains::sharing::nets_of;
+use rules::Driver;
 use rules::Position;
 use words::CellSet;
 use words::NetSet;
@@ -81,7 +80,7 @@ fn turn(
     requires { ⌜ c < cellsOf (now file) ⌝ }
     ensures { λ r. ⌜ ((on : List ℕ) → Holds (boardOf (now (file .entry))) on state → Holds (boardOf (now (file .entry))) (turn (boardOf (now (file .entry))) (wantedIn (boardOf (now (file .entry))) which g) (allowedIn which (member (earlier .words))) c on) r) ⌝ }
 {
-    let driver = driver_of(cell_at(file, c));
+    let driver = driver_at(file, c);
     let Driver::Of(k, n) = driver else {
         return state;
     };

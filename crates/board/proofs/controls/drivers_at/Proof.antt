@@ -9,7 +9,7 @@ use Rattle.rules.specs.File.{boardOf, cellsOf, netOf}
 use Rattle.rules.specs.Drivers.{controlled, drivers}
 use Rattle.rules.proofs.Tests.{or-left}
 use Rattle.rules.proofs.Shape.{whole-records}
-use Rattle.rules.proofs.Acceptance.{kept-net}
+use Rattle.rules.proofs.DriverLaws.{kept-net}
 use Rattle.chains.specs.Counts.{Counted}
 use Rattle.board.specs.Controls.{driversAt}
 use Rattle.board.proofs.controls.drivers_at.Statement.{statement}

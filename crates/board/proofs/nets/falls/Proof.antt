@@ -3,15 +3,16 @@ use Prim.Native.Nat.{_-_}
 use mathlib.Core.Bool.{false≢true}
 use native.Mathlib.Omega.{arith}
 use Rattle.rules.specs.File.{boardOf, cellsOf}
+use Rattle.rules.specs.Drivers.{controlFor}
 use Rattle.chains.specs.Chains.{NetOf, keyed}
 use Rattle.chains.proofs.Walks.{net-in, link-low}
-use Rattle.board.proofs.Falling.{Fallen, rankOf, falling-start, falling-next, falling-clear}
+use Rattle.board.proofs.Falling.{Fallen, falling-start, falling-next, falling-clear}
 use Rattle.board.proofs.nets.falls.Statement.{statement}
 use Rattle.board.proofs.nets.falls.Tie as tie
 
 abbrev Inv-loop : tie.InvT-loop
 Inv-loop file heads links n last₀ at₀ last at =
-    Fallen (keyed (boardOf file) NetOf n) (rankOf (boardOf file)) (cellsOf file) at last
+    Fallen (keyed (boardOf file) NetOf n) (controlFor (boardOf file)) (cellsOf file) at last
 
 abbrev μ-loop : tie.MeasureT-loop
 μ-loop file heads links n last₀ at₀ last at = at
