@@ -160,8 +160,8 @@ static bool keeps_inputs(const struct arguments *arguments)
     const char *written = written_file(arguments);
     memcpy(read + 1, arguments->operand, arguments->command->inputs * sizeof *read);
     for (unsigned i = 0; i <= MOST_OPERANDS && written != NULL; i++)
-        if (read[i] != NULL && same_file(read[i], written)) {
-            complain("%s would be overwritten", read[i]);
+        if (read[i] != NULL && would_overwrite(written, read[i])) {
+            complain("%s would be overwritten", input_name(read[i]));
             return false;
         }
     return true;

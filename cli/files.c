@@ -56,11 +56,12 @@ const char *output_name(const char *name)
     return is_standard(name) ? "standard output" : name;
 }
 
-bool same_file(const char *one, const char *other)
+bool would_overwrite(const char *written, const char *read)
 {
     struct stat a, b;
-    return !is_standard(one) && !is_standard(other) && stat(one, &a) == 0 && stat(other, &b) == 0 && a.st_dev == b.st_dev &&
-           a.st_ino == b.st_ino;
+    if (is_standard(written) || stat(written, &a) != 0 || !S_ISREG(a.st_mode))
+        return false;
+    return (is_standard(read) ? fstat(STDIN_FILENO, &b) : stat(read, &b)) == 0 && a.st_dev == b.st_dev && a.st_ino == b.st_ino;
 }
 
 bool can_be_read(const char *name)

@@ -32,8 +32,8 @@ void *more_room(void *room, size_t size);
 const char *input_name(const char *name);
 const char *output_name(const char *name);
 
-/* Whether two names are one file. */
-bool same_file(const char *one, const char *other);
+/* Whether writing the one would overwrite the other, which is read: both are one plain file. */
+bool would_overwrite(const char *written, const char *read);
 
 /* Whether a file can be opened and read; tells where it cannot. Of standard input and of a pipe no byte is taken, and none is told. */
 bool can_be_read(const char *name);
