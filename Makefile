@@ -85,7 +85,7 @@ dist: target/cli/rigcandle-static $(ARCHIVE)
 	rm -rf 'target/$(BENCH)'
 	$(call install_under,target/cli/rigcandle-static,target/$(BENCH),$${pcfiledir}/../..)
 	install -d 'target/$(BENCH)/docs' 'target/$(BENCH)/examples'
-	install -m 644 docs/FILE.md docs/OPERATING.md docs/INTERFACE.md docs/*.png 'target/$(BENCH)/docs'
+	install -m 644 docs/*.md docs/*.png 'target/$(BENCH)/docs'
 	install -m 644 examples/*.* 'target/$(BENCH)/examples'
 	tar -czf 'target/$(BENCH).tar.gz' -C target --owner=0 --group=0 '$(BENCH)'
 

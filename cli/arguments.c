@@ -102,6 +102,10 @@ static bool take_option(char **argv, int *at, struct arguments *into)
         }
         ++*at;
     }
+    if (!option->many && given_value(into, option->name) != NULL) {
+        complain("%s is given twice", option->name);
+        return false;
+    }
     if (into->givens == MOST_GIVEN) {
         complain("more than %d options", MOST_GIVEN);
         return false;

@@ -13,6 +13,7 @@ struct option {
     const char *name;   /* "--clock" */
     const char *value;  /* what its value is called, or NULL where it has none */
     const char *help;
+    bool many;          /* it may be given more than once */
 };
 
 struct arguments;

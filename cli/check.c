@@ -43,6 +43,8 @@ static void print_unseen(const struct board *board)
             before = ", ";
         }
     putchar('\n');
+    if (number != 0)
+        puts("no capture of this board is a RELEASE: a net that no input cell reads is unsure");
 }
 
 /* A line: how many control cells switch nothing, and which. */

@@ -6,17 +6,19 @@
 
 #include <string.h>
 
-#define NAMES_OPTION {"--names", "TEXT", "say nets and cells by their names in this text description of the board"}
+#define NAMES_OPTION {"--names", "TEXT", "say nets and cells by their names in this text description of the board", false}
 
 static const char check_help[] =
     "Accepted: the board's figures. Refused: the refusal in words, the cells and nets that it is about, and what to do.\n"
     "The time is that of one scan for each vector and one more, each of as many clocks as there are cells and five.";
 
 static const char groups_help[] =
-    "A line for each group: its number, its row in hex, and the positions of the control cells that are on.";
+    "A line for each group: its number, its row in hex, and the positions of the control cells that are on. A bit is 1 for a\n"
+    "control cell that is on, whatever its on value; what is scanned in are the vectors' rows. Byte 0 comes first in hex.";
 
 static const char vector_help[] =
-    "NUMBER counts from 0. Prints the vector's number, its group, its row in hex, and the positions at which the row is 1.";
+    "NUMBER counts from 0. Prints the vector's number, its group, its row in hex with byte 0 first, and the positions at\n"
+    "which the row is 1. Position 0 is the cell nearest to TDO.";
 
 static const char marks_help[] =
     "A line for each net that does not pass, then the numbers of pass, fail and unsure, and as the last line RELEASE where\n"
@@ -31,11 +33,13 @@ static const char show_help[] =
 
 static const char simulate_help[] =
     "CAPTURE gets the rows that a board with the given faults would be read as, none: a healthy board. P is a position, V is\n"
-    "0 or 1, A, B and W are nets; options may be given several times. To qualify a bench before it judges anything.";
+    "0 or 1, A, B and W are nets; faults may be given several times. To qualify a bench before it judges anything. A CAPTURE\n"
+    "that is there already is left alone unless --force is given: it may be a scanned one.";
 
 static const char report_help[] =
-    "One HTML page that needs nothing beside it: the verdict, the numbers, and each net with its words. Status as for marks;\n"
-    "where the board or the capture is refused no page is written.";
+    "One HTML page that needs nothing beside it: the verdict, the numbers, and each net with its words. Prints RELEASE or HOLD\n"
+    "(unless the page itself goes to standard output); status as for marks. Where the board or the capture is refused no page is\n"
+    "written, and one that stands there already stays what it was.";
 
 /* ---------------------------------------------------------------- words that are not what they should be */
 
@@ -78,11 +82,16 @@ static bool one_of(const struct arguments *arguments, const char *name, const ch
     return given == NULL;
 }
 
+/* Nothing that may be a scanned capture is written over unless that is asked for: a healthy one in its place would be released. */
 static bool simulate_fits(const struct arguments *arguments)
 {
     static const char *const fights[] = {"low", "high", NULL}, *const floats[] = {"0", "1", "keep"};
-    bool fight = one_of(arguments, "--fight", fights);
-    return one_of(arguments, "--float", floats) && fight;
+    bool fight = one_of(arguments, "--fight", fights), floating = one_of(arguments, "--float", floats);
+    if (is_there(arguments->operand[1]) && given_value(arguments, "--force") == NULL) {
+        complain("%s is there already and may be a scanned capture; --force writes over it", arguments->operand[1]);
+        return false;
+    }
+    return fight && floating;
 }
 
 /* ---------------------------------------------------------------- the table */
@@ -90,35 +99,36 @@ static bool simulate_fits(const struct arguments *arguments)
 const struct command commands[] = {
     {.name = "check", .operand = {"BOARD"}, .inputs = 1, .fit = check_fits,
      .purpose = "whether a board file is accepted, and its figures", .more = check_help,
-     .option = {{"--clock", "RATE", "clocks of the scan in a second, as 10MHz (so unless given), 250kHz or 500000"},
+     .option = {{"--clock", "RATE", "clocks of the scan in a second, as 10MHz (so unless given), 250kHz or 500000", false},
                 NAMES_OPTION}},
     {.name = "list", .operand = {"BOARD"}, .inputs = 1, .purpose = "all vectors, one a line: number, group, row in hex"},
     {.name = "groups", .operand = {"BOARD"}, .inputs = 1, .purpose = "the groups of control cells", .more = groups_help},
     {.name = "vector", .operand = {"BOARD", "NUMBER"}, .inputs = 1, .fit = vector_fits, .purpose = "one vector", .more = vector_help},
     {.name = "marks", .operand = {"BOARD", "CAPTURE"}, .inputs = 2,
      .purpose = "each net's mark for a capture, and RELEASE or HOLD", .more = marks_help,
-     .option = {{"--all", NULL, "list the nets that pass, too"},
+     .option = {{"--all", NULL, "list the nets that pass, too", false},
                 NAMES_OPTION}},
     {.name = "make", .operand = {"TEXT", "BOARD"}, .inputs = 1, .purpose = "a board file from a text description", .more = make_help},
     {.name = "show", .operand = {"BOARD"}, .inputs = 1, .purpose = "a board file as a text description", .more = show_help,
      .option = {NAMES_OPTION}},
     {.name = "simulate", .operand = {"BOARD", "CAPTURE"}, .inputs = 1, .fit = simulate_fits,
      .purpose = "the capture of a board with given faults", .more = simulate_help,
-     .option = {{"--and", "A,B,..", "these nets are tied, and a 0 wins"},
-                {"--or", "A,B,..", "these nets are tied, and a 1 wins"},
-                {"--wins", "W:A,B,..", "these nets are tied, and net W's drivers win"},
-                {"--open", "P=V", "the pin at P is open: an input reads V; an output no longer drives, and its net floats to V"},
-                {"--stuck", "P=V", "the output at P gives V whatever it is loaded with"},
-                {"--on", "P", "the control cell at P is stuck on: its outputs always drive"},
-                {"--off", "P", "the control cell at P is stuck off: its outputs never drive"},
-                {"--fight", "low|high", "where outputs that are on at one net differ, a 0 wins (so unless given) or a 1"},
-                {"--float", "0|1|keep", "what a net reads that nothing drives; 1 unless given"},
-                {"--during", "FIRST-LAST", "the faults are there in these vectors only"},
+     .option = {{"--and", "A,B,..", "these nets are tied, and a 0 wins", true},
+                {"--or", "A,B,..", "these nets are tied, and a 1 wins", true},
+                {"--wins", "W:A,B,..", "these nets are tied, and net W's drivers win", true},
+                {"--open", "P=V", "the pin at P is open: an input reads V; an output no longer drives, and its net floats to V", true},
+                {"--stuck", "P=V", "the output at P gives V whatever it is loaded with", true},
+                {"--on", "P", "the control cell at P is stuck on: its outputs always drive", true},
+                {"--off", "P", "the control cell at P is stuck off: its outputs never drive", true},
+                {"--fight", "low|high", "where outputs that are on at one net differ, a 0 wins (so unless given) or a 1", true},
+                {"--float", "0|1|keep", "what a net reads that nothing drives; 1 unless given", true},
+                {"--during", "FIRST-LAST", "the faults are there in these vectors only", true},
+                {"--force", NULL, "write over a CAPTURE that is there already", false},
                 NAMES_OPTION}},
     {.name = "report", .operand = {"BOARD", "CAPTURE"}, .inputs = 2, .fit = report_fits,
      .purpose = "a page for the consignment's record", .more = report_help,
-     .option = {{"-o", "PAGE", "where the page is written; must be given"},
-                {"--serial", "WORDS", "the serial number that the page bears"},
-                {"--date", "WORDS", "the date that the page bears; today's unless given"},
+     .option = {{"-o", "PAGE", "where the page is written; must be given", false},
+                {"--serial", "WORDS", "the serial number that the page bears", false},
+                {"--date", "WORDS", "the date that the page bears; today's unless given", false},
                 NAMES_OPTION}},
     {.name = NULL}};

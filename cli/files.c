@@ -64,6 +64,12 @@ bool would_overwrite(const char *written, const char *read)
     return (is_standard(read) ? fstat(STDIN_FILENO, &b) : stat(read, &b)) == 0 && a.st_dev == b.st_dev && a.st_ino == b.st_ino;
 }
 
+bool is_there(const char *name)
+{
+    struct stat there;
+    return !is_standard(name) && stat(name, &there) == 0 && S_ISREG(there.st_mode);
+}
+
 bool can_be_read(const char *name)
 {
     struct stat there;

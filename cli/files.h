@@ -35,6 +35,9 @@ const char *output_name(const char *name);
 /* Whether writing the one would overwrite the other, which is read: both are one plain file. */
 bool would_overwrite(const char *written, const char *read);
 
+/* Whether a plain file stands there already. */
+bool is_there(const char *name);
+
 /* Whether a file can be opened and read; tells where it cannot. Of standard input and of a pipe no byte is taken, and none is told. */
 bool can_be_read(const char *name);
 

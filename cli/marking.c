@@ -14,6 +14,7 @@ static enum status capture_refused(const struct board *board, const struct marki
         complain("%s has %s%zu bytes; %u vectors of %zu bytes are %zu", marking->capture_name,
                  marking->capture.length > RIGCANDLE_MOST_CAPTURE ? "at least " : "", marking->capture.length, board->vectors,
                  board->row, board->vectors * board->row);
+    complain("nothing was tested: the scan was cut short, or the capture belongs to another board file");
     return REFUSED;
 }
 
@@ -25,8 +26,10 @@ enum status read_marking(const struct arguments *arguments, struct board *board,
     marking->capture_name = input_name(arguments->operand[1]);
     if (!read_whole(arguments->operand[1], RIGCANDLE_MOST_CAPTURE, &marking->capture))
         return UNUSABLE;
-    if (refused(board))
+    if (refused(board)) {
+        complain("nothing was tested; rigcandle check says more of the board");
         return REFUSED;
+    }
     memset(marking->mark, NO_MARK, sizeof marking->mark);
     marking->answer = marks(board->file, board->length, marking->capture.at, marking->capture.length, marking->mark,
                             sizeof marking->mark);

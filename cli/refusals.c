@@ -25,15 +25,19 @@ static const struct {
     {"a record breaks the table of cell kinds",
      "Compare the cell at this position with the device's description: its kind, on value, control cell and net."},
     {"a net has no kind 3 or 4 output",
-     "The net's driver was left out of the file, or no boundary-scan cell drives the net: then take the net out of the file."},
+     "The net's driver was left out of the file, or no boundary-scan cell drives the net. In the second case it cannot be tested\n"
+     "here: take the net out of the file and make its cells internal; a cell itself is never left out."},
     {"a net has a kind 4 output and another output, or two outputs of one control cell",
      "Two outputs would drive against each other. Compare them with the circuit diagram; do not scan the board before."},
     {"a net has over 16 controlled drivers",
-     "Compare the net's outputs with the circuit diagram; perhaps two nets have been given one number."},
+     "Compare the net's outputs with the circuit diagram; perhaps two nets have been given one number. If the diagram agrees, the\n"
+     "board is outside what this test can do."},
     {"two control cells' net sets meet and neither holds the other",
-     "For the layout engineer: these control cells share a net, and each has a net that the other lacks."},
+     "For the layout engineer: these control cells share a net, and each has a net that the other lacks. If the diagram agrees, the\n"
+     "board is outside what this test can do."},
     {"a control cell's nets differ in number of controlled drivers",
-     "For the layout engineer: one of these nets has a driver too many or too few."},
+     "For the layout engineer: compare the drivers of these nets with the diagram. If it agrees, the board is outside what this\n"
+     "test can do: all nets of a control cell must have equally many drivers."},
     {"over 4,096 vectors",
      "A larger SSOL means fewer inserted vectors. Whether the board bears it, the layout engineer decides."},
     {"vector number not below the count", "Ask for a vector from 0 to the total less 1; rigcandle check gives the total."},
@@ -201,7 +205,7 @@ static void print_set(FILE *out, const struct board *board, unsigned control, bo
             fputs(before, out);
             print_net(out, board, net);
             if (drivers)
-                fprintf(out, " (%u controlled drivers)", drivers_of(board, net));
+                fprintf(out, drivers_of(board, net) == 1 ? " (1 controlled driver)" : " (%u controlled drivers)", drivers_of(board, net));
             before = ", ";
         }
     fputc('\n', out);

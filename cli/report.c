@@ -28,14 +28,21 @@ enum status run_report(const struct arguments *arguments)
     const char *date = given_value(arguments, "--date");
     struct page page = {&board, &marking, given_value(arguments, "--serial"), date != NULL ? date : today(room), NULL};
     struct output out;
+    const char *name = given_value(arguments, "-o");
     enum status read = read_marking(arguments, &board, &marking);
-    if (read != FINE)
+    if (read != FINE) {
+        if (is_there(name))
+            complain("%s is of an earlier run, and says nothing of this one", name);
         return read;
+    }
     page.words = words_of(&board, marking.capture.at);
-    if (!open_output(given_value(arguments, "-o"), &out))
+    if (!open_output(name, &out))
         return UNUSABLE;
     write_page(out.stream, &page);
+    bool printed = out.stream == stdout;
     if (!close_output(&out))
         return UNUSABLE;
+    if (!printed)
+        puts(marking.release ? "RELEASE" : "HOLD");
     return marking.release ? FINE : HOLD;
 }

@@ -11,6 +11,9 @@
 
 enum { MOST_WORDS = 16, MOST_NAME = 63 };   /* words of a line, bytes of a name */
 
+/* Some editors put it before the first line. */
+#define BYTE_ORDER_MARK "\xEF\xBB\xBF"
+
 /* The values that a cell's line may have, each behind its word. */
 enum field { ON_FIELD = 1, CONTROL_FIELD = 2, NET_FIELD = 4, KIND_FIELD = 8, EVERY_FIELD = 15 };
 
@@ -256,6 +259,8 @@ static void read_cell(struct reader *reader, char **word)
     cell->form = form_named(word[0]);
     if (cell->form != NULL)
         read_fields(reader, cell, word);
+    else if (word[0] != NULL && form_named(word[1]) != NULL)
+        wrong(reader, reader->line, "expected a colon behind the cell's name, found %s %s", word[0], word[1]);
     else
         wrong(reader, reader->line,
               "expected limit, nets, net, or a cell: internal, input, control, three-state, two-state, record; found %s",
@@ -426,7 +431,10 @@ bool read_description(const char *name, struct bytes *text, struct description *
         wrong(&reader, 1, "expected text of at most %d bytes, without zero bytes", MOST_TEXT);
         return told_all(&reader);
     }
-    for (char *line = (char *)text->at; line != NULL;) {
+    char *first = (char *)text->at;
+    if (strncmp(first, BYTE_ORDER_MARK, strlen(BYTE_ORDER_MARK)) == 0)
+        first += strlen(BYTE_ORDER_MARK);
+    for (char *line = first; line != NULL;) {
         char *end = strchr(line, '\n');
         if (end != NULL)
             *end++ = 0;

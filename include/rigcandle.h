@@ -12,6 +12,9 @@
  *     else
  *         printf("vectors %u\n", rigcandle_count_total(answer));
  *
+ * Position 0 is the cell of the chain nearest to TDO: its bit goes in first and comes out first. A capture of V vectors takes V + 1
+ * scans, since the response to a row leaves the chain while the next row goes in: docs/OPERATING.md has how to scan.
+ *
  * What a caller owes, since no library can check it:
  *   - a length is true: that many bytes may be read (file, capture) or written (out);
  *   - buffers do not overlap, and nobody else writes to them during the call;
@@ -25,6 +28,8 @@
  *
  * The release rule is rigcandle_all_pass and nothing weaker. A refused marks call says 0 fail and 0 unsure, and a buffer that began
  * with zeros still says pass for every net: neither is a verdict. A compiler that can warn of an answer that nobody looks at does.
+ *
+ * The header needs C99 or C++11.
  *
  * Linking: librigcandle.a is x86-64 code for the System V calling convention (Linux and its like) and needs memset, and nothing else.
  *
@@ -224,8 +229,24 @@ static inline unsigned rigcandle_marks_unsure(uint64_t answer)
     return rigcandle_if_accepted(answer, 40, 16);
 }
 
-/* The release rule: 1 where the marks call was accepted, none of its nets fails or is unsure and all `nets` of the board (N) pass; else
- * 0. A number of nets that is not the board's never makes it 1. */
+/* C, N and R = ceil(C / 8) of a board file that was accepted. */
+static inline unsigned rigcandle_file_cells(const uint8_t *file)
+{
+    return file[10] + 256u * file[11];
+}
+
+static inline unsigned rigcandle_file_nets(const uint8_t *file)
+{
+    return file[12] + 256u * file[13];
+}
+
+static inline unsigned rigcandle_file_row(const uint8_t *file)
+{
+    return (rigcandle_file_cells(file) + 7u) / 8u;
+}
+
+/* The release rule: 1 where the marks call was accepted, none of its nets fails or is unsure and all `nets` of the board pass
+ * (rigcandle_file_nets); else 0. A number of nets that is not the board's never makes it 1. */
 static inline int rigcandle_all_pass(uint64_t answer, unsigned nets)
 {
     return rigcandle_refusal(answer) == RIGCANDLE_ACCEPTED && nets != 0u && rigcandle_marks_pass(answer) == nets &&

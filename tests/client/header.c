@@ -79,6 +79,18 @@ static void check_release(void)
     same("256 pass", (unsigned)rigcandle_all_pass(marked(256, 0, 0), 256), 1);
 }
 
+static void check_file(void)
+{
+    uint8_t file[16] = {0};
+    file[10] = 0x23;
+    file[11] = 0x01;
+    file[12] = 0xFF;
+    file[13] = 0x02;
+    same("C", rigcandle_file_cells(file), 0x123);
+    same("N", rigcandle_file_nets(file), 0x2FF);
+    same("R", rigcandle_file_row(file), 0x25);
+}
+
 static void check_empty_file(void)
 {
     same("groups", rigcandle_refusal(LIBRARY(groups)(NULL, 0, NULL, 0)), RIGCANDLE_FILE_LENGTH);
@@ -92,6 +104,7 @@ int main(void)
     check_accepted();
     check_refused();
     check_release();
+    check_file();
     check_empty_file();
     return wrong;
 }

@@ -114,6 +114,8 @@ def accepted(file, rate=1e7, names=NO_NAMES):
     yield "patterns %d" % kept.patterns
     yield "vectors %d" % kept.total
     yield told("nets without an input cell", [names.net(net) for net in unseen(board)])
+    if unseen(board):
+        yield "no capture of this board is a RELEASE: a net that no input cell reads is unsure"
     yield told("control cells that switch nothing", [names.cell(c) for c in idle(board)])
     yield time_of(kept.total + 1, len(board.cells), rate)
 
@@ -208,7 +210,7 @@ def about_uneven(file, place, names):
     board = document01.read(file)
     drivers = lambda net: sum(cell.kind == THREE_STATE and cell.net == net for cell in board.cells)
     nets = sorted(document01.net_sets(board)[place])
-    yield "  %s switches %s" % (names.cell(place), ", ".join("%s (%d controlled drivers)" % (names.net(net), drivers(net)) for net in nets))
+    yield "  %s switches %s" % (names.cell(place), ", ".join("%s (%d controlled driver%s)" % (names.net(net), drivers(net), "s" if drivers(net) != 1 else "") for net in nets))
 
 
 def about_vectors(file, place, names):

@@ -25,7 +25,7 @@ NASTY = ((b"<script>alert(1)</script>", "<script>alert(1)</script>"),
 def check_page(program, typed, board, capture):
     """Writes the page and looks at it; gives its text."""
     _, marks = marks_of(board, capture)
-    program.expect(1 if any(marks) else 0, "report", *typed, "-o", "out/new", out=b"")
+    program.expect(1 if any(marks) else 0, "report", *typed, "-o", "out/new", out=b"HOLD\n" if any(marks) else b"RELEASE\n")
     made = taken(program)
     if made is None:
         program.fault(["report", *typed], "no page")
@@ -45,7 +45,7 @@ def examples(program):
     bus = read(EXAMPLES, "board-bus.bsin")
     write(program.folder, "bus.bsin", bus)
     for number, faults in enumerate(([], ["--and", "3,9"], ["--or", "0,12"], ["--open", "9=0"], ["--off", "0", "--float", "0"])):
-        program.expect(0, "simulate", "bus.bsin", "bus.capture", *faults)
+        program.expect(0, "simulate", "bus.bsin", "bus.capture", "--force", *faults)
         names = ["--names", os.path.join(EXAMPLES, "board-bus.txt")] if number % 2 else []
         check_page(program, ["bus.bsin", "bus.capture", *names], bus, read(program.folder, "bus.capture"))
 

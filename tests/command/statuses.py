@@ -24,8 +24,8 @@ COMMANDS = tuple(line.split() for line in (
     "make TEXT OUT",
     "show BOARD",
     "show BOARD --names NAMES",
-    "simulate BOARD OUT",
-    "simulate BOARD OUT --names NAMES --and DATA,2 --open 9=1",
+    "simulate BOARD OUT --force",
+    "simulate BOARD OUT --force --names NAMES --and DATA,2 --open 9=1",
     "report BOARD CAPTURE -o OUT --date today",
     "report BOARD CAPTURE -o OUT --date today --names NAMES --serial 7"))
 
@@ -177,8 +177,13 @@ def good(program):
         status, out, file = found[tuple(command)] = result(program, words(command))
         program.check(words(command), status == 0, "status %s of good files" % status)
         program.check(words(command), bool(file) == ("OUT" in command), "the file to write")
-        program.check(words(command), bool(out) == ("OUT" not in command), "printed %r" % out)
+        program.check(words(command), out == said(command) if "OUT" in command else bool(out), "printed %r" % out)
     return found
+
+
+def said(command):
+    """What a command prints of good files that writes a file: report the verdict, the others nothing."""
+    return b"RELEASE\n" if command[0] == "report" else b""
 
 
 def unusable_inputs(program):
@@ -308,7 +313,7 @@ def whole_files(program, wanted):
         program.expect(0, *words(command, OUT="-"), out=file)
         write(program.folder, "target", b"old " * 5000)
         os.symlink("target", os.path.join(program.folder, "link"))
-        program.expect(0, *words(command, OUT="link"), out=b"")
+        program.expect(0, *words(command, OUT="link"), out=said(command))
         program.check(typed, os.path.islink(os.path.join(program.folder, "link")), "the link is gone")
         same_file(program, typed, read(program.folder, "target"), file)
         same_file(program, typed, drained(program, words(command, OUT="pipe")), file)
@@ -326,7 +331,7 @@ def drained(program, typed):
     os.mkfifo(name)
     drain = threading.Thread(target=lambda: found.append(read(program.folder, "pipe")), daemon=True)
     drain.start()
-    program.expect(0, *typed, out=b"")
+    program.expect(0, *typed, out=said(typed))
     drain.join(5)
     os.remove(name)
     return found[0] if found else None
@@ -349,6 +354,29 @@ def overwritten_inputs(program):
             program.check(typed, ran.status == 3, "status %s where the output is standard input" % ran.status)
             program.check(typed, read(program.folder, name) == before, "wrote over its own standard input")
             write(program.folder, name, before)
+
+
+def scanned_captures(program):
+    """simulate leaves a capture alone that is there already, unless it is told to write over it."""
+    write(program.folder, "out/new", b"scanned")
+    typed = words("simulate BOARD OUT".split())
+    ran = program.run(*typed)
+    program.check(typed, ran.status == 3 and b"--force" in ran.err, "status %s where a capture is there" % ran.status)
+    program.check(typed, read(program.folder, "out/new") == b"scanned", "wrote over a capture")
+    os.remove(os.path.join(program.folder, "out/new"))
+    program.expect(0, *typed, out=b"")
+    os.remove(os.path.join(program.folder, "out/new"))
+
+
+def earlier_pages(program):
+    """Where report is refused, a page that is there already stays, and is said to be of an earlier run."""
+    write(program.folder, "out/new", b"RELEASE of yesterday")
+    typed = words("report BOARD CAPTURE -o OUT".split(), CAPTURE="empty")
+    ran = program.run(*typed)
+    program.check(typed, ran.status == 2 and b"out/new is of an earlier run" in ran.err, "told %r of an earlier page" % ran.err)
+    program.check(typed, b"nothing was tested" in ran.err and not ran.out, "nothing was tested, but told %r" % ran.err)
+    program.check(typed, read(program.folder, "out/new") == b"RELEASE of yesterday", "wrote over a page")
+    os.remove(os.path.join(program.folder, "out/new"))
 
 
 PRINTING = (*(command for command in COMMANDS if "OUT" not in command), *(words(command, OUT="-") for command in COMMANDS if "OUT" in command),
@@ -390,7 +418,7 @@ def closed_streams(program, wanted):
         for closing in ("<&-", "2>&-", "<&- 2>&-"):
             found = result(program, typed, through=("bash", "-c", 'exec "$@" ' + closing, "closed"))
             program.check(typed, found == wanted[tuple(command)], "status %s with %s" % (found[0], closing))
-        if "OUT" in command:
+        if "OUT" in command and not said(command):
             for closing in (">&-", ">/dev/full", ">&- 2>&-", "<&- >&- 2>&-"):
                 status, _, file = result(program, typed, through=("bash", "-c", 'exec "$@" ' + closing, "closed"))
                 program.check(typed, (status, file) == (0, wanted[tuple(command)][2]), "status %s with %s" % (status, closing))
@@ -502,6 +530,8 @@ def run(program, rng, root, rounds):
     disk_full_while_writing(program)
     whole_files(program, wanted)
     overwritten_inputs(program)
+    scanned_captures(program)
+    earlier_pages(program)
     lost_outputs(program)
     reader_that_leaves(program)
     closed_streams(program, wanted)

@@ -214,7 +214,8 @@ def check_names_told(program, rng, file, names):
     else:
         told = program.expect(2, "check", "named.bsin", "--names", text).out.splitlines(True)
         wanted = printed(expected.refusal(file, names))
-        program.check(("check", "--names"), b"".join(told[:1] + told[2:-1]) == wanted, "told %r\n  expected %r" % (told, wanted))
+        about = told[:1] + [line for line in told if line.startswith(b"  ")]
+        program.check(("check", "--names"), b"".join(about) == wanted, "told %r\n  expected %r" % (told, wanted))
 
 
 def check_named_marks(program, rng, file, text, names):
@@ -249,7 +250,7 @@ def other_names(program, rng):
     write(program.folder, "e.capture", boards.tied_capture(boards.board_e(), "healthy", []))
     for what, board in texts.items():
         write(program.folder, "other.txt", Writer(rng, *board).text())
-        for typed in (["check", "e.bsin"], ["marks", "e.bsin", "e.capture"], ["show", "e.bsin"], ["simulate", "e.bsin", "out/new"],
+        for typed in (["check", "e.bsin"], ["marks", "e.bsin", "e.capture"], ["show", "e.bsin"], ["simulate", "e.bsin", "out/new", "--force"],
                       ["report", "e.bsin", "e.capture", "-o", "out/new"]):
             ran = expect_nothing(program, 3, [*typed, "--names", "other.txt"], err=b"other.txt")
             program.check(ran.words, b"e.bsin" in ran.err, "another %s: told %r" % (what, ran.err))
