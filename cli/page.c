@@ -193,8 +193,8 @@ static void put_limits(FILE *out)
           "timing or what a part does. <cite>docs/OPERATING.md</cite> goes through this fault by fault.</p>\n",
           out);
     fputs("<p>Each net&#39;s mark and the three numbers are the answers of Rigcandle&#39;s library, which is proved to "
-          "keep to its definition of them; RELEASE is said where these count every net as pass. What the tables say of the words that cells read is worked out beside that, to help find "
-          "the fault, and decides nothing.</p>\n</section>\n",
+          "keep to its definition of them; RELEASE is said where these count every net as pass. What the tables say of the words that "
+          "cells read is worked out beside that, to help find the fault, and decides nothing.</p>\n</section>\n",
           out);
 }
 

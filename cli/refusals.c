@@ -205,7 +205,7 @@ static void print_set(FILE *out, const struct board *board, unsigned control, bo
             fputs(before, out);
             print_net(out, board, net);
             if (drivers)
-                fprintf(out, drivers_of(board, net) == 1 ? " (1 controlled driver)" : " (%u controlled drivers)", drivers_of(board, net));
+                fprintf(out, " (%u controlled driver%s)", drivers_of(board, net), drivers_of(board, net) != 1 ? "s" : "");
             before = ", ";
         }
     fputc('\n', out);
