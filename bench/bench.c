@@ -1,8 +1,9 @@
 /*
- * bench.c - asks the library and plain C the four questions about the reference boards, compares the answers, and measures.
+ * bench.c - asks the library and plain C the four questions about the reference boards, each in three orders of its cells, compares the
+ * answers, and measures. A board that is refused is only counted.
  *
  *     bench stack     prints the boards, and the deepest stack of each question in bytes
- *     bench count     under callgrind: one dump for each call, named by its trigger: board, question, what was asked, implementation
+ *     bench count     under callgrind: one dump for each call, named by its trigger: board, order, question, what was asked, implementation
  *
  * A third implementation does nothing. It costs what asking costs, which is to be taken off.
  */
@@ -27,6 +28,8 @@ enum question { GROUPS, COUNT, VECTOR, MARKS };
 
 static const char *const question_name[] = {"groups", "count", "vector", "marks"};
 
+static const char *const order_name[ORDERS] = {"made", "reversed", "shuffled"};
+
 struct implementation {
     const char *name;
     uint64_t (*groups)(const uint8_t *file, size_t file_len, uint8_t *out, size_t out_len);
@@ -37,6 +40,8 @@ struct implementation {
 
 struct call {
     const char *board;
+    const char *order;
+    unsigned refusal; /* the number it must be refused with, or 0 */
     enum question question;
     const char *what; /* the vector or the capture that is asked about */
     const uint8_t *file;
@@ -92,22 +97,37 @@ __attribute__((noinline)) static uint64_t ask(const struct implementation *of, c
     }
 }
 
+/* Asks with a fresh buffer; if counting, leaves a dump of the instructions this takes. */
+static uint64_t ask_afresh(bool counting, const struct implementation *of, const struct call *c, uint8_t *out)
+{
+    char label[100];
+    memset(out, UNWRITTEN, OUT_ROOM);
+    if (!counting)
+        return ask(of, c, out);
+    snprintf(label, sizeof label, "%s %s %s %s %s", c->board, c->order, question_name[c->question], c->what, of->name);
+    CALLGRIND_ZERO_STATS;
+    uint64_t answer = ask(of, c, out);
+    CALLGRIND_DUMP_STATS_AT(label);
+    return answer;
+}
+
 /* ---------------------------------------------------------------- comparing */
 
 static void fail(const struct call *c, const char *message)
 {
-    fprintf(stderr, "bench: board %s, %s %s: %s\n", c->board, question_name[c->question], c->what, message);
+    fprintf(stderr, "bench: board %s, %s, %s %s: %s\n", c->board, c->order, question_name[c->question], c->what, message);
     exit(1);
 }
 
-/* The answer of both; ends the program where they differ in a bit of it or a byte of the buffer, or where they refuse. */
-static uint64_t agreed(const struct call *c)
+/*
+ * The answer of both; ends the program where they differ in a bit of it or a byte of the buffer, or where they refuse but should not, or
+ * the other way round. If counting, the calls that are compared are those that are counted: the slow ones run once under valgrind.
+ */
+static uint64_t agreed(bool counting, const struct call *c)
 {
     static uint8_t ours[OUT_ROOM], theirs[OUT_ROOM];
     char message[80];
-    memset(ours, UNWRITTEN, sizeof ours);
-    memset(theirs, UNWRITTEN, sizeof theirs);
-    uint64_t answer = ask(&rigcandle, c, ours), other = ask(&plain, c, theirs);
+    uint64_t answer = ask_afresh(counting, &rigcandle, c, ours), other = ask_afresh(counting, &plain, c, theirs);
     if (answer != other) {
         snprintf(message, sizeof message, "the library answers %016" PRIx64 ", plain C %016" PRIx64, answer, other);
         fail(c, message);
@@ -117,8 +137,8 @@ static uint64_t agreed(const struct call *c)
             snprintf(message, sizeof message, "byte %u is %02x by the library, %02x by plain C", i, ours[i], theirs[i]);
             fail(c, message);
         }
-    if (rigcandle_refusal(answer) != RIGCANDLE_ACCEPTED) {
-        snprintf(message, sizeof message, "refused %u %u", rigcandle_refusal(answer), rigcandle_place(answer));
+    if (rigcandle_refusal(answer) != c->refusal) {
+        snprintf(message, sizeof message, "refused %u %u, expected %u", rigcandle_refusal(answer), rigcandle_place(answer), c->refusal);
         fail(c, message);
     }
     return answer;
@@ -126,14 +146,13 @@ static uint64_t agreed(const struct call *c)
 
 /* ---------------------------------------------------------------- measuring */
 
-static void count_instructions(const struct implementation *of, const struct call *c)
+/* What asking itself costs. It is the same for every call of a question. */
+static void count_asking(void)
 {
     static uint8_t out[OUT_ROOM];
-    char label[100];
-    snprintf(label, sizeof label, "%s %s %s %s", c->board, question_name[c->question], c->what, of->name);
-    CALLGRIND_ZERO_STATS;
-    ask(of, c, out);
-    CALLGRIND_DUMP_STATS_AT(label);
+    struct call c = {.board = "-", .order = "-", .what = "-"};
+    for (c.question = GROUPS; c.question <= MARKS; c.question++)
+        ask_afresh(true, &empty, &c, out);
 }
 
 static uint8_t painted[STACK_ROOM] __attribute__((aligned(16)));
@@ -174,7 +193,7 @@ static size_t depth(const struct implementation *of, const struct call *c)
 
 static void print_stack(const struct implementation *of, const struct call *c)
 {
-    printf("stack %s %s %s %s %zu\n", c->board, question_name[c->question], c->what, of->name, depth(of, c) - depth(&empty, c));
+    printf("stack %s %s %s %s %zu\n", c->board, c->order, question_name[c->question], of->name, depth(of, c) - depth(&empty, c));
 }
 
 /* ---------------------------------------------------------------- calls */
@@ -182,12 +201,8 @@ static void print_stack(const struct implementation *of, const struct call *c)
 /* Measures a call of both, and answers what they answer. */
 static uint64_t measure(bool counting, const struct call *c)
 {
-    uint64_t answer = agreed(c);
-    if (counting) {
-        count_instructions(&empty, c);
-        count_instructions(&rigcandle, c);
-        count_instructions(&plain, c);
-    } else {
+    uint64_t answer = agreed(counting, c);
+    if (!counting) {
         print_stack(&rigcandle, c);
         print_stack(&plain, c);
     }
@@ -216,33 +231,50 @@ static void measure_marks(bool counting, struct call c, const struct board *b, u
     for (unsigned further = 0; further < 2; further++) {
         c.what = names[further];
         c.capture_len = write_capture(b, rigcandle_count_g(counted), rigcandle_count_p(counted), further, capture);
-        if (rigcandle_marks_pass(measure(counting, &c)) != (further == 0 ? b->nets : 0))
-            fail(&c, "all nets of a healthy board pass, and none of a swapped one");
+        if (rigcandle_marks_pass(measure(counting, &c)) != (further == 0 ? nets_seen(b) : 0))
+            fail(&c, "all nets of a healthy board pass that are seen, and none of a swapped one");
     }
 }
 
-static void measure_board(bool counting, const struct board *b)
+static void measure_board(bool counting, const struct board *b, enum order order)
 {
     static uint8_t file[RIGCANDLE_MOST_FILE];
-    struct call c = {.board = b->name, .question = COUNT, .what = "-", .file = file, .file_len = write_file(b, file)};
+    struct call c = {
+        .board = b->name, .order = order_name[order], .refusal = b->refusal,
+        .question = COUNT, .what = "-", .file = file, .file_len = write_file(b, file),
+    };
     uint64_t counted = measure(counting, &c);
-    if (!counting)
-        printf("board %s %u %u %u %u\n", b->name, b->size, b->nets, control_cells(b), rigcandle_count_total(counted));
+    unsigned total = rigcandle_count_total(counted);
+    if (!counting && order == AS_MADE)
+        printf("board %s %u %u %u %u %u\n", b->name, b->size, b->nets, control_cells(b), total, b->refusal);
+    if (b->refusal != RIGCANDLE_ACCEPTED)
+        return;
     c.question = GROUPS;
     measure(counting, &c);
-    measure_vectors(counting, c, rigcandle_count_total(counted));
+    measure_vectors(counting, c, total);
     measure_marks(counting, c, b, counted);
+}
+
+static void measure_all(bool counting)
+{
+    static struct board boards[MOST_BOARDS], b;
+    unsigned made = make_boards(boards);
+    for (unsigned i = 0; i < made; i++)
+        for (enum order order = AS_MADE; order < ORDERS; order++) {
+            put_in_order(&boards[i], order, &b);
+            measure_board(counting, &b, order);
+        }
 }
 
 int main(int argc, char **argv)
 {
-    static struct board boards[MOST_BOARDS];
     if (argc != 2 || (strcmp(argv[1], "stack") != 0 && strcmp(argv[1], "count") != 0)) {
         fprintf(stderr, "usage: bench stack|count\n");
         return 2;
     }
-    unsigned made = make_boards(boards);
-    for (unsigned i = 0; i < made; i++)
-        measure_board(strcmp(argv[1], "count") == 0, &boards[i]);
+    bool counting = strcmp(argv[1], "count") == 0;
+    if (counting)
+        count_asking();
+    measure_all(counting);
     return 0;
 }

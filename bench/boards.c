@@ -1,6 +1,7 @@
 /*
  * boards.c - the reference boards of the benchmark. Each is made in the order of its positions: control cells with their outputs behind
- * them, then the two-state outputs, then the input cells. Nothing is drawn at random, so that a count can be made again.
+ * them, then the two-state outputs, then the input cells. The same board is then also put in two other orders, since a board's cells may
+ * stand in any. Nothing is drawn at random but by a fixed seed, so that a count can be made again.
  */
 #include "boards.h"
 
@@ -10,7 +11,7 @@
 
 enum { INTERNAL, INPUT, CONTROL, THREE_STATE, TWO_STATE };
 
-enum { NONE = 65535, BODY = 508, RECORDS_AT = 4, RECORD = 6, PER_BLOCK = 84 };
+enum { NONE = 65535, BODY = 508, RECORDS_AT = 4, RECORD = 6, PER_BLOCK = 84, SEED = 12 };
 
 /* ---------------------------------------------------------------- cells */
 
@@ -34,6 +35,13 @@ static void add_bus(struct board *b, unsigned drivers, unsigned first, unsigned 
 {
     for (unsigned i = 0; i < drivers; i++)
         add_driver(b, i % 2, first, width);
+}
+
+/* One level of a tree: control cells of this width side by side over the nets from `first` up to `end`. */
+static void add_level(struct board *b, unsigned on, unsigned width, unsigned first, unsigned end)
+{
+    for (; first < end; first += width)
+        add_driver(b, on, first, width);
 }
 
 static void add_always_on(struct board *b, unsigned first, unsigned end)
@@ -78,8 +86,7 @@ static void add_tree(struct board *b, unsigned tree)
     const unsigned levels = sizeof width / sizeof *width;
     for (unsigned i = 0; i < levels; i++) {
         unsigned level = tree % 2 == 0 ? i : levels - 1 - i;
-        for (unsigned first = 0; first < 8; first += width[level])
-            add_driver(b, i % 2, 8 * tree + first, width[level]);
+        add_level(b, i % 2, width[level], 8 * tree, 8 * tree + 8);
     }
 }
 
@@ -93,9 +100,35 @@ static void make_nested(struct board *b)
 /* One control cell over all nets, and a control cell for each net. */
 static void make_cover(struct board *b)
 {
-    add_driver(b, 1, 0, b->nets);
-    for (unsigned net = 0; net < b->nets; net++)
-        add_driver(b, 0, net, 1);
+    add_level(b, 1, b->nets, 0, b->nets);
+    add_level(b, 0, 1, 0, b->nets);
+    fill_with_inputs(b, 1024);
+}
+
+/* The same the other way round: a control cell for each net, and the one over all nets highest. */
+static void make_widest(struct board *b)
+{
+    add_level(b, 0, 1, 0, b->nets);
+    add_level(b, 1, b->nets, 0, b->nets);
+    fill_with_inputs(b, 1024);
+}
+
+/* Three times a control cell for each pair of nets, and above them one for each 16 nets and one over all. */
+static void make_pairs(struct board *b)
+{
+    for (unsigned i = 0; i < 3; i++)
+        add_level(b, i % 2, 2, 0, b->nets);
+    add_level(b, 1, 16, 0, b->nets);
+    add_level(b, 0, b->nets, 0, b->nets);
+    fill_with_inputs(b, 1024);
+}
+
+/* A binary tree of control cells over all nets: the small ones low, from those of `least` nets up to the one over all. */
+static void make_tree(struct board *b, unsigned least)
+{
+    unsigned on = 0;
+    for (unsigned width = least; width <= b->nets; width *= 2)
+        add_level(b, on++ % 2, width, 0, b->nets);
     fill_with_inputs(b, 1024);
 }
 
@@ -104,6 +137,23 @@ static void make_inputs(struct board *b, unsigned drivers)
 {
     add_bus(b, drivers, 0, 1);
     add_always_on(b, 1, b->nets);
+    fill_with_inputs(b, 1024);
+}
+
+/* Refused: one net with 500 drivers, too many. */
+static void make_crowd(struct board *b)
+{
+    b->refusal = 9;
+    add_bus(b, 500, 0, 1);
+    fill_with_inputs(b, 1024);
+}
+
+/* Refused earlier: of as many drivers the last has the control cell of the one before it, so that reversed the two lowest clash. */
+static void make_shared(struct board *b)
+{
+    b->refusal = 8;
+    add_bus(b, 499, 0, 1);
+    add(b, THREE_STATE, 0, b->size - 2, 0);
     fill_with_inputs(b, 1024);
 }
 
@@ -184,6 +234,11 @@ unsigned make_boards(struct board *boards)
     make_bus(begin(next++, "bus", 0, 96, 8));
     make_nested(begin(next++, "nested", 0, 88, 8));
     make_cover(begin(next++, "cover", 0, 255, 8));
+    make_widest(begin(next++, "widest", 0, 255, RIGCANDLE_MOST_CELLS));
+    make_pairs(begin(next++, "pairs", 0, 128, RIGCANDLE_MOST_CELLS));
+    make_tree(begin(next++, "tree", 1, 64, RIGCANDLE_MOST_CELLS), 1);
+    make_tree(begin(next++, "tree", 2, 128, RIGCANDLE_MOST_CELLS), 2);
+    make_tree(begin(next++, "tree", 4, 128, RIGCANDLE_MOST_CELLS), 4);
     make_inputs(begin(next++, "limit", 0, 128, 2), 16);
     make_inputs(begin(next++, "nets256", 0, 256, 2), 7);
     make_inputs(begin(next++, "ssol1", 0, 256, 1), 3);
@@ -193,6 +248,8 @@ unsigned make_boards(struct board *boards)
         make_growth(begin(next++, "more", 128 * units, 16 * units, 4 * units), units, units);
     for (unsigned units = 1; units <= 8; units *= 2)
         make_growth(begin(next++, "wide", 128 * units, 16 * units, 4 * units), units, 1);
+    make_crowd(begin(next++, "crowd", 0, 1, 8));
+    make_shared(begin(next++, "shared", 0, 1, 8));
     assert(next - boards <= MOST_BOARDS);
     return (unsigned)(next - boards);
 }
@@ -203,6 +260,55 @@ unsigned control_cells(const struct board *b)
     for (unsigned q = 0; q < b->size; q++)
         found += b->cell[q].kind == CONTROL;
     return found;
+}
+
+unsigned nets_seen(const struct board *b)
+{
+    uint8_t seen[RIGCANDLE_MOST_NETS] = {0};
+    unsigned found = 0;
+    for (unsigned q = 0; q < b->size; q++)
+        if (b->cell[q].kind == INPUT)
+            seen[b->cell[q].net] = 1;
+    for (unsigned net = 0; net < b->nets; net++)
+        found += seen[net];
+    return found;
+}
+
+/* ---------------------------------------------------------------- orders */
+
+/* Each place changes places with one at or below it, from the last down: which one, is told by a number that goes on from the seed. */
+static void shuffle(uint16_t *place, unsigned size)
+{
+    uint32_t number = SEED;
+    for (unsigned q = size - 1; q > 0; q--) {
+        number = number * 1664525 + 1013904223;
+        unsigned other = (number >> 16) % (q + 1);
+        uint16_t moved = place[q];
+        place[q] = place[other];
+        place[other] = moved;
+    }
+}
+
+/* place[q] is where the cell at q goes. */
+static void find_places(unsigned size, enum order order, uint16_t *place)
+{
+    for (unsigned q = 0; q < size; q++)
+        place[q] = (uint16_t)(order == REVERSED ? size - 1 - q : q);
+    if (order == SHUFFLED)
+        shuffle(place, size);
+}
+
+void put_in_order(const struct board *made, enum order order, struct board *b)
+{
+    uint16_t place[RIGCANDLE_MOST_CELLS];
+    *b = *made;
+    find_places(made->size, order, place);
+    for (unsigned q = 0; q < made->size; q++) {
+        struct cell *cell = &b->cell[place[q]];
+        *cell = made->cell[q];
+        if (cell->control != NONE)
+            cell->control = place[cell->control];
+    }
 }
 
 /* ---------------------------------------------------------------- the board file */

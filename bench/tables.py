@@ -9,6 +9,9 @@ import re
 import sys
 
 QUESTIONS = ("groups", "count", "vector", "marks")
+ORDERS = ("made", "reversed", "shuffled")
+ASKED = ("-", "first", "middle", "last", "healthy", "swapped")
+FAMILIES = ("more", "wide")
 TRIGGER = "desc: Trigger: Client Request: "
 GROWTH = re.compile(r"(more|wide)-(\d+)$")
 SIZES = (128, 256, 512, 1024)
@@ -21,7 +24,15 @@ MANY_VECTORS = ("limit", "nets256", "ssol1")
 CLOSE_TO_LINEAR = 1.25      # times what linear growth would give
 MOST_STACK = 12 * 1024      # bytes, below
 
-Board = collections.namedtuple("Board", "cells nets controls vectors")
+Board = collections.namedtuple("Board", "cells nets controls vectors refusal")
+
+
+class Call(collections.namedtuple("Call", "board order question asked ours theirs")):
+    """What was asked of a board in an order, and the instructions it took the library and plain C."""
+
+    @property
+    def ratio(self):
+        return self.ours / self.theirs
 
 
 # --------------------------------------------------------------------------
@@ -29,7 +40,7 @@ Board = collections.namedtuple("Board", "cells nets controls vectors")
 # --------------------------------------------------------------------------
 
 def read_printed(name):
-    """Boards by name, and bytes of stack by (question, implementation, board): the deepest of what was asked."""
+    """Boards by name, and bytes of stack by (question, implementation, board, order): the deepest of what was asked."""
     boards, stacks = {}, collections.defaultdict(int)
     with open(name) as lines:
         for line in lines:
@@ -37,14 +48,14 @@ def read_printed(name):
             if sort == "board":
                 boards[board] = Board(*map(int, rest))
             else:
-                question, _, implementation, depth = rest
-                key = question, implementation, board
+                order, question, implementation, depth = rest
+                key = question, implementation, board, order
                 stacks[key] = max(stacks[key], int(depth))
     return boards, stacks
 
 
 def read_dump(name):
-    """(board, question, what was asked, implementation) and its instructions, or None for the dump at the program's end."""
+    """(board, order, question, what was asked, implementation) and its instructions, or None for the dump at the program's end."""
     label = None
     with open(name) as lines:
         for line in lines:
@@ -55,18 +66,25 @@ def read_dump(name):
     return None
 
 
-def read_counts(folder):
-    """Instructions by (board, question, what was asked, implementation), without those of asking."""
+def read_calls(folder, boards):
+    """All calls, without the instructions of asking: by board as they are made, then by order, question and what was asked."""
     dumps = (read_dump(os.path.join(folder, name)) for name in os.listdir(folder))
     found = dict(dump for dump in dumps if dump)
-    return {(*call, of): number - found[(*call, "empty")] for (*call, of), number in found.items() if of != "empty"}
+    asking = {label[2]: number for label, number in found.items() if label[4] == "empty"}
+    calls = [Call(*call, number - asking[call[2]], found[(*call, "plain")] - asking[call[2]])
+             for (*call, of), number in found.items() if of == "rigcandle"]
+    names = list(boards)
+    return sorted(calls, key=lambda call: (names.index(call.board), ORDERS.index(call.order), QUESTIONS.index(call.question),
+                                           ASKED.index(call.asked)))
 
 
-def highest(counts):
-    """Instructions by (board, question, implementation): the highest of what was asked."""
+def highest(calls):
+    """Instructions by (board, order, question, implementation): the highest of what was asked."""
     found = collections.defaultdict(int)
-    for (board, question, _, of), number in counts.items():
-        found[board, question, of] = max(found[board, question, of], number)
+    for call in calls:
+        for of, number in (("rigcandle", call.ours), ("plain", call.theirs)):
+            key = call.board, call.order, call.question, of
+            found[key] = max(found[key], number)
     return found
 
 
@@ -82,19 +100,43 @@ def table(heads, rows):
     print()
 
 
-def cost_rows(boards, most):
+def place(call):
+    """The order, and what was asked where a question is asked more than once."""
+    return call.order if call.asked == "-" else "%s, %s" % (call.order, call.asked)
+
+
+def cost_rows(boards, calls, most):
+    """For each board and question the highest counts in the order as made, and the worst single call of all orders."""
     for name, board in boards.items():
         if GROWTH.match(name):
             continue
         for question in QUESTIONS:
-            ours, theirs = most[name, question, "rigcandle"], most[name, question, "plain"]
-            yield (name, *board, question, ours, theirs, "%.2f" % (ours / theirs))
+            asked = [call for call in calls if call.board == name and call.question == question]
+            if asked:
+                worst = max(asked, key=lambda call: call.ratio)
+                vectors = "refused %d" % board.refusal if board.refusal else board.vectors
+                yield (name, board.cells, board.nets, board.controls, vectors, question, most[name, "made", question, "rigcandle"],
+                       most[name, "made", question, "plain"], "%.2f" % worst.ratio, place(worst))
 
 
-def growth(boards, most, family, question, of):
+def above_rows(above):
+    for call in above:
+        yield (call.board, call.order, call.question, call.asked, call.ours, call.theirs, "%.3f" % call.ratio)
+
+
+def tell_above(of, above):
+    """Every call above the ratio, one by one."""
+    print("### Above %.1f of plain C: %s\n" % (MOST_RATIO, of))
+    if above:
+        table(("board", "order", "question", "asked", "rigcandle", "plain C", "ratio"), above_rows(above))
+    else:
+        print("None.\n")
+
+
+def growth(boards, most, family, order, question, of):
     """The four counts, how many times the first the last is, and how many times it would be if growth were linear: in the cells, and for
     marks in the bits of the capture."""
-    numbers = [most["%s-%d" % (family, size), question, of] for size in SIZES]
+    numbers = [most["%s-%d" % (family, size), order, question, of] for size in SIZES]
     first, last = (boards["%s-%d" % (family, size)] for size in (SIZES[0], SIZES[-1]))
     linear = last.cells / first.cells
     if question == "marks":
@@ -103,17 +145,21 @@ def growth(boards, most, family, question, of):
 
 
 def growth_rows(boards, most):
-    for family in ("more", "wide"):
+    """The counts are those in the order as made."""
+    for family in FAMILIES:
         for question in QUESTIONS:
             for of in ("rigcandle", "plain"):
-                numbers, times, linear = growth(boards, most, family, question, of)
-                yield (family, question, of, *numbers, "%.1f" % times, "%.1f" % linear)
+                numbers, times, linear = growth(boards, most, family, "made", question, of)
+                in_order = {order: growth(boards, most, family, order, question, of)[1] for order in ORDERS}
+                worst = max(ORDERS, key=in_order.get)
+                yield (family, question, of, *numbers, "%.1f" % times, "%.1f" % linear, "%.1f" % in_order[worst], worst)
 
 
 def deepest(stacks, question, of):
-    """The bytes, and the first board that needs them."""
-    depth = max(found for key, found in stacks.items() if key[:2] == (question, of))
-    return depth, next(key[2] for key, found in stacks.items() if key[:2] == (question, of) and found == depth)
+    """The bytes, and the first board that needs them, with its order if it is not as made."""
+    found = {key[2:]: depth for key, depth in stacks.items() if key[:2] == (question, of)}
+    board, order = max(found, key=found.get)
+    return found[board, order], board if order == "made" else "%s %s" % (board, order)
 
 
 def stack_rows(stacks):
@@ -132,35 +178,43 @@ def tell(goal, faults):
         print("  - " + fault)
 
 
-def ratio_faults(counts):
-    """For each question, the boards on which a single call is above the ratio."""
+def ratio_faults(calls, above):
+    """For each question, how many of its calls are above the ratio, and the highest three."""
     for question in QUESTIONS:
-        worst = collections.defaultdict(float)
-        for (board, asked, what, of), number in counts.items():
-            if asked == question and of == "rigcandle" and not GROWTH.match(board):
-                worst[board] = max(worst[board], number / counts[board, asked, what, "plain"])
-        above = sorted(((ratio, board) for board, ratio in worst.items() if ratio > MOST_RATIO), reverse=True)
-        if above:
-            highest_three = ", ".join("%s %.3f" % (board, ratio) for ratio, board in above[:3])
-            yield "%s: above on %d of %d boards, the highest %s" % (question, len(above), len(worst), highest_three)
+        found = sorted((call for call in above if call.question == question), key=lambda call: -call.ratio)
+        if found:
+            asked = sum(call.question == question for call in calls)
+            three = "; ".join("%s %s %.3f" % (call.board, place(call), call.ratio) for call in found[:3])
+            yield "%s: %d of %d calls above, the highest %s" % (question, len(found), asked, three)
 
 
 def growth_faults(boards, most):
-    for family in ("more", "wide"):
+    for family in FAMILIES:
         for question in QUESTIONS:
-            _, times, linear = growth(boards, most, family, question, "rigcandle")
-            if times > CLOSE_TO_LINEAR * linear:
-                yield "%s on %s grows %.1f times, linear is %.1f" % (question, family, times, linear)
+            for order in ORDERS:
+                _, times, linear = growth(boards, most, family, order, question, "rigcandle")
+                if times > CLOSE_TO_LINEAR * linear:
+                    yield "%s on %s, %s, grows %.1f times, linear is %.1f" % (question, family, order, times, linear)
 
 
-def tell_goals(boards, counts, most, stacks):
-    tell("every call at most %.1f of plain C's instructions on each reference board" % MOST_RATIO, list(ratio_faults(counts)))
-    number = most["bus", "vector", "rigcandle"]
-    tell("vector on bus under %s instructions (%s)" % (f"{MOST_BUS_VECTOR:,}", f"{number:,}"),
-         [] if number < MOST_BUS_VECTOR else ["%.1f times that" % (number / MOST_BUS_VECTOR)])
+def most_faults(most, names, question, limit):
+    """The boards and orders in which a question takes more than the limit."""
+    for name in names:
+        for order in ORDERS:
+            number = most[name, order, question, "rigcandle"]
+            if number > limit:
+                yield "%s, %s: %s" % (name, order, f"{number:,}")
+
+
+def tell_goals(boards, calls, above, marks_above, most, stacks):
+    tell("every groups, count and vector at most %.1f of plain C's instructions on each board in each order" % MOST_RATIO,
+         list(ratio_faults(calls, above)))
+    tell("every marks at most %.1f of plain C's instructions on each board in each order" % MOST_RATIO,
+         list(ratio_faults(calls, marks_above)))
+    tell("vector on bus under %s instructions (as made %s)" % (f"{MOST_BUS_VECTOR:,}", f"{most['bus', 'made', 'vector', 'rigcandle']:,}"),
+         list(most_faults(most, ("bus",), "vector", MOST_BUS_VECTOR - 1)))
     tell("marks at most %s instructions at thousands of vectors" % f"{MOST_MARKS:,}",
-         ["%s: %s" % (name, f"{most[name, 'marks', 'rigcandle']:,}") for name in MANY_VECTORS
-          if most[name, "marks", "rigcandle"] > MOST_MARKS])
+         list(most_faults(most, MANY_VECTORS, "marks", MOST_MARKS)))
     tell("from 128 to 1,024 cells at most %.2f times linear growth" % CLOSE_TO_LINEAR, list(growth_faults(boards, most)))
     depths = {question: deepest(stacks, question, "rigcandle")[0] for question in QUESTIONS}
     tell("deepest stack under %s bytes (%s)" % (f"{MOST_STACK:,}", f"{max(depths.values()):,}"),
@@ -169,16 +223,22 @@ def tell_goals(boards, counts, most, stacks):
 
 def main(printed, dumps):
     boards, stacks = read_printed(printed)
-    counts = read_counts(dumps)
-    most = highest(counts)
+    calls = read_calls(dumps, boards)
+    most = highest(calls)
+    above = [call for call in calls if call.ratio > MOST_RATIO and call.question != "marks"]
+    marks_above = [call for call in calls if call.ratio > MOST_RATIO and call.question == "marks"]
     print("### Instructions a call\n")
-    table(("board", "cells", "nets", "control cells", "vectors", "question", "rigcandle", "plain C", "ratio"), cost_rows(boards, most))
+    table(("board", "cells", "nets", "control cells", "vectors", "question", "rigcandle", "plain C", "worst ratio", "in order"),
+          cost_rows(boards, calls, most))
+    tell_above("groups, count, vector", above)
+    tell_above("marks", marks_above)
     print("### Growth from 128 to 1,024 cells\n")
-    table(("family", "question", "of", *("%s cells" % f"{size:,}" for size in SIZES), "times", "linear"), growth_rows(boards, most))
+    table(("family", "question", "of", *("%s cells" % f"{size:,}" for size in SIZES), "times", "linear", "most times", "in order"),
+          growth_rows(boards, most))
     print("### Deepest stack, in bytes\n")
     table(("question", "rigcandle", "on", "plain C", "on"), stack_rows(stacks))
     print("### Goals\n")
-    tell_goals(boards, counts, most, stacks)
+    tell_goals(boards, calls, above, marks_above, most, stacks)
 
 
 if __name__ == "__main__":
