@@ -17,13 +17,17 @@ use Rattle.rules.proofs.Tests.{decided, left, right, both, or-left, not-fails, 
 use Rattle.rules.proofs.Driving.{drives-driver, meets-net}
 use Rattle.rules.proofs.Shape.{laid, shaped, whole-records}
 use Rattle.rules.proofs.DriverLaws.{kept-control, kept-net}
+use Rattle.rules.proofs.Searching.{Searched}
 use Rattle.words.specs.Sets.{netWords, cellWords, meetsIn, insideIn, lieBy, lieOf}
 use Rattle.words.proofs.Bounds.{meets-bound, inside-bound}
-use Rattle.chains.specs.Chains.{ControlCell, keyed}
+use Rattle.chains.specs.Table.{ControlCell, headIn}
+use Rattle.chains.specs.Chains.{keyed, Chains}
 use Rattle.chains.specs.Sharing.{partnersOf}
-use Rattle.board.specs.Controls.{isCrossing, driversAt}
+use Rattle.board.specs.Controls.{isCrossing, driversAt, anyOther, Idle}
 use Rattle.chains.proofs.Chaining.{keyed-control}
+use Rattle.chains.proofs.Walks.{cell-fits, none-keyed}
 use Rattle.chains.proofs.Brought.{own-net}
+use Rattle.board.proofs.Crossings.{crossed-idle}
 
 -- crossing is: meeting, and neither inside the other
 crossing-by : (x y z : Bool) → isCrossing (lieBy x y z) ≡ (z && not x && not y)
@@ -129,11 +133,12 @@ module _ (file : List ℕ) (ok : judge (fileChecks file) ≡ Accepted) where
   search-ended i j v l =
       sym (none-any _ _ (λ x m. fails-if _ (λ t. clashes (right (ltb i x) t) (v .none x (ltb-true i x (left (ltb i x) _ t)) (omega arith)))))
 
+-- the driver at c is one of control cell k, and its net has another number of drivers
+abbrev pub other : Board → ℕ → ℕ → ℕ → Bool
+other b k first c = keyed b ControlCell k c && not (eqb (driversAt b c) first)
+
 -- along k's chain from h: one driver whose net has another count than h's is an unequal pair
 module _ (b : Board) (known : (c : ℕ) → c < b .size → controlled b c ≡ true → (netOf (b .cell c) < b .nets) × (isControl b (controlFor b c) ≡ true)) (k : ℕ) where
-  abbrev pub other : ℕ → ℕ → Bool
-  other first c = keyed b ControlCell k c && not (eqb (driversAt b c) first)
-
   -- a driver of k at c
   on : (c : ℕ) → keyed b ControlCell k c ≡ true → (controlled b c ≡ true) × (controlFor b c ≡ k)
   on c h =
@@ -153,16 +158,16 @@ module _ (b : Board) (known : (c : ℕ) → c < b .size → controlled b c ≡ t
       let e = eqb-true (netOf (b .cell (c .0))) n (left (onNet b n (c .0)) _ (c .2)) in
       (c .0, c .1, key, counts (c .0) key ∙ ap (drivers b) e)
 
-  pub unequal-other : (h first : ℕ) → h < b .size → keyed b ControlCell k h ≡ true → first ≡ driversAt b h → unequal b k ≡ any (b .size) (other first)
+  pub unequal-other : (h first : ℕ) → h < b .size → keyed b ControlCell k h ≡ true → first ≡ driversAt b h → unequal b k ≡ any (b .size) (other b k first)
   unfolding unequal
   unequal-other h first l key e = same-test _ _ forth back
     where
-      find : (n : ℕ) → drives b k n ≡ true → (drivers b n ≡ first → ⊥) → any (b .size) (other first) ≡ true
+      find : (n : ℕ) → drives b k n ≡ true → (drivers b n ≡ first → ⊥) → any (b .size) (other b k first) ≡ true
       find n d z =
           let c = driver-at n d in
           any-at _ _ (c .1) (both (c .2) (not-fails (ne-eqb _ _ (λ q. z (sym (c .3) ∙ q)))))
 
-      forth : unequal b k ≡ true → any (b .size) (other first) ≡ true
+      forth : unequal b k ≡ true → any (b .size) (other b k first) ≡ true
       forth t =
           let n = any-member _ _ (right (isControl b k) t) in
           let m = any-member _ _ (n .2) in
@@ -173,7 +178,7 @@ module _ (b : Board) (known : (c : ℕ) → c < b .size → controlled b c ≡ t
           (λ (q : eqb (drivers b (n .0)) first ≡ false). find (n .0) (left (drives b k (n .0)) _ p) (eqb-false _ _ q))
           (decided (eqb (drivers b (n .0)) first))
 
-      back : any (b .size) (other first) ≡ true → unequal b k ≡ true
+      back : any (b .size) (other b k first) ≡ true → unequal b k ≡ true
       back t =
           let c = any-member _ _ t in
           let kc = left (keyed b ControlCell k (c .0)) _ (c .2) in
@@ -191,10 +196,29 @@ module _ (b : Board) (known : (c : ℕ) → c < b .size → controlled b c ≡ t
 
 -- over a file
 module _ (file : List ℕ) (ok : judge (fileChecks file) ≡ Accepted) (k : ℕ) where
-  pub unequal-by : (h first : ℕ) (r : Bool) → h < cellsOf file → keyed (boardOf file) ControlCell k h ≡ true → first ≡ driversAt (boardOf file) h → any (cellsOf file) (other (boardOf file) (known file ok) k first) ≡ r → r ≡ unequal (boardOf file) k
-  unfolding boardOf
-  unequal-by h first r l key e t = sym (unequal-other (boardOf file) (known file ok) k h first l key e ∙ t)
+  pub unequal-by : (h first : ℕ) → h < cellsOf file → keyed (boardOf file) ControlCell k h ≡ true → first ≡ driversAt (boardOf file) h → anyOther (boardOf file) k first ≡ unequal (boardOf file) k
+  unfolding boardOf anyOther
+  unequal-by h first l key e = sym (unequal-other (boardOf file) (known file ok) k h first l key e)
 
   pub unequal-empty : ((c : ℕ) → c < cellsOf file → keyed (boardOf file) ControlCell k c ≡ false) → false ≡ unequal (boardOf file) k
   unfolding boardOf
   unequal-empty none = sym (unequal-none (boardOf file) (known file ok) k none)
+
+-- a search over control cells goes on past idle places: one that switches nothing does not fail
+pub past-idle : (places : ℕ) (fails : ℕ → Bool) (t : List ℕ) (k to : ℕ) → ((j : ℕ) → j < places → headIn ControlCell t j ≡ 0 → fails j ≡ false) → Searched places fails k → to ≤ places → Idle t k to → Searched places fails to
+past-idle places fails t k to idle s l v =
+    record {
+      inside = l;
+      lower = λ j m. ⊎-elim (λ (x : j < k). s .lower j x) (λ (x : k ≤ j). idle j (omega arith) (v .none j x m)) (order j k);
+    }
+
+module _ (file t : List ℕ) (ch : Chains file ControlCell t) (j : ℕ) (l : j < cellsOf file) (z : headIn ControlCell t j ≡ 0) where
+  none : (c : ℕ) → c < cellsOf file → keyed (boardOf file) ControlCell j c ≡ false
+  none = none-keyed file ControlCell t ch j (cell-fits file (ch .checked) j l) z
+
+  pub idle-equal : unequal (boardOf file) j ≡ false
+  idle-equal = sym (unequal-empty file (ch .checked) j none)
+
+  pub idle-uncrossed : crossed (boardOf file) j ≡ false
+  unfolding boardOf
+  idle-uncrossed = crossed-idle (boardOf file) j none

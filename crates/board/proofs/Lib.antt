@@ -1,7 +1,7 @@
 -- The laws that the functions of this crate share.
 pub mod Clashing
-pub mod Falling
 pub mod NetChecks
 pub mod ControlChecks
 pub mod Crossings
+pub mod BearingLaws
 pub mod Order

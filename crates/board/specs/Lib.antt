@@ -1,4 +1,4 @@
--- What refusals 7 to 11 are checked by, over the tables that a whole file fills.
+-- What refusals 7 to 11 are checked by, over the table that a whole file fills.
 pub mod Nets
 pub mod Controls
-pub mod Verdict
+pub mod Bearing

@@ -1,23 +1,21 @@
 // The verdict on a board file: refusals 1 to 11, in their order.
 ghost use mathlib.Core.Path.{_≡_};
-ghost use mathlib.Core.List.{_++_};
-ghost use Rattle.rules.specs.File.{boardOf};
-ghost use Rattle.rules.specs.Refusals.{judge, fileChecks, netChecks, controlChecks, boardChecks};
+ghost use Rattle.rules.specs.File.{boardOf, cellsOf};
+ghost use Rattle.rules.specs.Refusals.{judge, fileChecks, controlChecks, boardChecks};
 ghost use Rattle.rules.specs.declared.Verdict.the-variants.{Accepted};
-ghost use Rattle.chains.specs.Filling.{Blank, Filled};
-ghost use Rattle.board.specs.Verdict.{Judgeable};
+ghost use Rattle.chains.specs.Table.{Blank};
+ghost use Rattle.chains.specs.Filling.{Filled};
 use crate::controls::crossed_verdict;
 use crate::controls::unequal_verdict;
 use crate::nets::nets_verdict;
-use blocks::MOST_CELLS;
-use blocks::MOST_NETS;
 use blocks::header_verdict;
 use blocks::layout_verdict;
 use blocks::length_verdict;
 use blocks::read_sizes;
 use blocks::sums_verdict;
 use cells::records_verdict;
-use chains::filling::fill_tables;
+use chains::TABLE;
+use chains::filling::fill_table;
 use rules::Verdict;
 
 // Refusals 1 to 6: the file.
@@ -44,79 +42,43 @@ fn file_verdict(file: &[u8]) -> Verdict
     records_verdict(file, sizes.cells, sizes.nets)
 }
 
-// Refusals 7 to 11: the nets and the control cells, over the tables.
-fn tables_verdict(
-    file: &[u8],
-    heads: &[u16],
-    links: &[u16],
-    net_heads: &[u16],
-    net_links: &[u16],
-    counts: &[u16],
-    cells: usize,
-    nets: usize,
-) -> Verdict
-    requires { ⌜ Judgeable (now file) (now heads) (now links) (now «net_heads») (now «net_links») (now counts) cells nets ⌝ }
-    ensures { λ r. ⌜ r ≡ judge (netChecks (boardOf (now (file .entry))) ++ controlChecks (boardOf (now (file .entry)))) ⌝ }
+// Refusals 10 and 11: the control cells.
+fn controls_verdict(file: &[u8], table: &[u16; TABLE], cells: usize) -> Verdict
+    requires { ⌜ Filled (now file) (now table) ⌝ }
+    requires { ⌜ cells ≡ cellsOf (now file) ⌝ }
+    ensures { λ r. ⌜ r ≡ judge (controlChecks (boardOf (now (file .entry)))) ⌝ }
 {
-    let nets = nets_verdict(file, net_heads, net_links, counts, nets);
-    let Verdict::Accepted = nets else {
-        return nets;
-    };
-    let crossed = crossed_verdict(file, heads, links, net_heads, net_links, cells);
+    let crossed = crossed_verdict(file, table, cells);
     let Verdict::Accepted = crossed else {
         return crossed;
     };
-    unequal_verdict(file, heads, links, counts, cells)
+    unequal_verdict(file, table, cells)
 }
 
-// Refusals 1 to 11, with the tables of an accepted board left in the lent ones, which hold nothing yet.
-pub fn examine(
-    file: &[u8],
-    heads: &mut [u16],
-    links: &mut [u16],
-    net_heads: &mut [u16],
-    net_links: &mut [u16],
-    counts: &mut [u16],
-) -> Verdict
-    requires { ⌜ Blank (now heads) (now links) (now «net_heads») (now «net_links») (now counts) ⌝ }
+// Refusals 1 to 11, with the chains and numbers of an accepted board left in the lent table, which holds
+// nothing yet.
+pub fn examine(file: &[u8], table: &mut [u16; TABLE]) -> Verdict
+    requires { ⌜ Blank (now table) ⌝ }
     ensures { λ r. ⌜ r ≡ judge (boardChecks (now (file .entry))) ⌝ }
-    ensures { λ r. ⌜ (judge (boardChecks (now (file .entry))) ≡ Accepted → Filled (now (file .entry)) (now (heads .exit)) (now (links .exit)) (now («net_heads» .exit)) (now («net_links» .exit)) (now (counts .exit))) ⌝ }
+    ensures { λ r. ⌜ (judge (boardChecks (now (file .entry))) ≡ Accepted → Filled (now (file .entry)) (now (table .exit))) ⌝ }
 {
     let ok = file_verdict(file);
     let Verdict::Accepted = ok else {
         return ok;
     };
     let sizes = read_sizes(file);
-    let cells = sizes.cells;
-    let nets = sizes.nets;
-    fill_tables(file, cells, heads, links, net_heads, net_links, counts);
-    tables_verdict(
-        file,
-        heads,
-        links,
-        net_heads,
-        net_links,
-        counts,
-        cells,
-        nets,
-    )
+    fill_table(file, sizes.cells, table);
+    let nets = nets_verdict(file, table, sizes.nets);
+    let Verdict::Accepted = nets else {
+        return nets;
+    };
+    controls_verdict(file, table, sizes.cells)
 }
 
 // The verdict on a board file, for all files.
 pub fn verdict(file: &[u8]) -> Verdict
     ensures { λ r. ⌜ r ≡ judge (boardChecks (now (file .entry))) ⌝ }
 {
-    let mut heads = [0u16; MOST_CELLS];
-    let mut links = [0u16; MOST_CELLS];
-    let mut net_heads = [0u16; MOST_NETS];
-    let mut net_links = [0u16; MOST_CELLS];
-    let mut counts = [0u16; MOST_NETS];
-    examine(
-        file,
-        &mut heads,
-        &mut links,
-        &mut net_heads,
-        &mut net_links,
-        &mut counts,
-    )
+    let mut table = [0u16; TABLE];
+    examine(file, &mut table)
 }

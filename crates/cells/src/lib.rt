@@ -168,11 +168,11 @@ pub fn cell_at(file: &[u8], p: usize) -> Cell
 }
 
 // The net at position p of a whole file, or 65,535: what a walk along drivers needs of their records.
-pub fn net_at(file: &[u8], p: usize) -> usize
+pub fn net_at(file: &[u8], p: usize) -> Net
     requires { ⌜ Whole (now file) p ⌝ }
-    ensures { λ r. ⌜ r ≡ netOf (boardOf (now (file .entry)) .cell p) ⌝ }
+    ensures { λ r. ⌜ r .0 ≡ netOf (boardOf (now (file .entry)) .cell p) ⌝ }
 {
-    blocks::pair(file, record_start(p) + 4) as usize
+    Net(blocks::pair(file, record_start(p) + 4))
 }
 
 // What the cell at position p of a whole file drives: the one place that knows which kinds of cells are

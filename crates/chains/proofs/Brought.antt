@@ -16,7 +16,8 @@ use Rattle.rules.proofs.Driving.{driver-output, drives-driver, driver-own, meet
 use Rattle.rules.proofs.Shape.{laid, shaped, whole-records}
 use Rattle.rules.proofs.DriverLaws.{kept-net}
 use Rattle.words.specs.Sets.{netWords, nothing, plus}
-use Rattle.chains.specs.Chains.{ControlCell, NetOf, keyed}
+use Rattle.chains.specs.Table.{ControlCell, NetOf}
+use Rattle.chains.specs.Chains.{keyed}
 use Rattle.chains.specs.Sharing.{withControl, withControls, withSharers, partnersOf}
 use Rattle.chains.proofs.Chaining.{keyed-net, keyed-control}
 

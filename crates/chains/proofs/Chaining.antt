@@ -1,25 +1,26 @@
 -- Laws of chains: what `last` gives, and what one more output does to a head and a link.
-use Prim.Native.Nat.{ℕ, zero, suc, _+_, _<_, _≤_}
+use Prim.Native.Nat.{ℕ, zero, suc, _+_, _-_, _<_, _≤_}
 use mathlib.Core.Path.{_≡_, refl, sym, _∙_}
 use mathlib.Core.Logic.{_⊎_, ⊎-elim}
 use mathlib.Core.Bool.{Bool, true, false, cond, _&&_, _||_, false≢true, and-true, and-false}
 use mathlib.Core.List.{List}
 use native.Mathlib.Numerals.{add-one}
 use native.Mathlib.Omega.{arith}
-use borrow.Author.Tests.{eqb-true, eq-eqb}
-use lib.Dec.{eqb}
-use lib.ListN.{length, getD, set, length-set}
-use lib.Seq.{getD-set-same, getD-set-other}
+use borrow.Author.Tests.{eqb-true, eq-eqb, ltb-false}
+use lib.Dec.{eqb, ltb}
+use lib.ListN.{length, getD}
 use Rattle.rules.specs.Basics.{any}
 use Rattle.rules.specs.File.{Board, boardOf, cellsOf, netOf, brokenAt}
 use Rattle.rules.specs.Drivers.{controlled, controlFor, alwaysOn, onNet, outputOf}
-use Rattle.rules.specs.Refusals.{judge, fileChecks}
+use Rattle.rules.specs.Refusals.{judge, fileChecks, mostCells, mostNets}
 use Rattle.rules.specs.declared.Cell.{Cell}
 use Rattle.rules.specs.declared.Verdict.the-variants.{Accepted}
-use Rattle.rules.proofs.Shape.{whole-records}
+use Rattle.rules.proofs.Shape.{laid, shaped, whole-records}
 use Rattle.rules.proofs.DriverLaws.{isOutput, output-is, kept-control, kept-net}
 use Rattle.rules.proofs.Tests.{decided, fails-if, clashes, below-suc}
-use Rattle.chains.specs.Chains.{By, ControlCell, NetOf, last, keyAt, isKey, keyed, keysOf, Linked}
+use Rattle.chains.specs.Table.{By, ControlCell, NetOf, Size, linksFrom, room, headIn, linkIn, spliced, Same}
+use Rattle.chains.specs.Chains.{last, keyAt, sizeKey, isKey, keyed, Linked}
+use Rattle.chains.proofs.TableLaws.{spliced-head, spliced-link, spliced-other}
 use Rattle.chains.specs.declared.Key.the-variants.{Of, Nothing}
 
 -- one more number: it is the last where it passes, else the last stays
@@ -71,51 +72,99 @@ any-last (suc n) p q h = go (p n) refl (any-last n p q (λ c l. h c (omega arith
     go false e r = rw (fails-if (q n) (λ t. clashes (h n (omega arith) t) e)) r
 
 -- nothing has a key below 0
-pub linked-none : (b : Board) (by : By) (heads links : List ℕ) → ((k : ℕ) → getD heads k 0 ≡ 0) → ((c : ℕ) → getD links c 0 ≡ 0) → Linked b by 0 heads links
+pub linked-none : (b : Board) (by : By) (t : List ℕ) → ((i : ℕ) → getD t i 0 ≡ 0) → Linked b by 0 t
 unfolding last
-linked-none b by heads links h k =
-    record { head = λ i l. h i; link = λ c i l. absurd (omega arith); low = λ c. let z = k c in omega arith }
+linked-none b by t z =
+    record {
+      head = λ k l. z (linksFrom by + (mostCells + k));
+      link = λ c k l. absurd (omega arith);
+      lower = λ c l. let e = z (linksFrom by + c) in omega arith;
+    }
 
-module _ (b : Board) (by : By) (c : ℕ) (heads links : List ℕ) (so-far : Linked b by c heads links) where
+-- another table that has the same family has the same chains
+pub linked-same : (b : Board) (by : By) (n : ℕ) (t t′ : List ℕ) → n ≤ mostCells → Same (linksFrom by) (linksFrom by + (mostCells + room by)) t t′ → Linked b by n t → Linked b by n t′
+linked-same b by n t t′ few same l =
+    record {
+      head = λ k m. same .entry (linksFrom by + (mostCells + k)) (omega arith) (omega arith) ∙ l .head k m;
+      link = λ c k m h. same .entry (linksFrom by + c) (omega arith) (omega arith) ∙ l .link c k m h;
+      lower = λ c m. let e = same .entry (linksFrom by + c) (omega arith) (omega arith) in let o = l .lower c m in omega arith;
+    }
+
+module _ (b : Board) (by : By) (c : ℕ) (t : List ℕ) (so-far : Linked b by c t) where
   -- a cell with no key changes nothing
-  pub linked-skip : keyAt b by c ≡ Nothing → Linked b by (c + 1) heads links
+  pub linked-skip : keyAt b by c ≡ Nothing → Linked b by (c + 1) t
   unfolding keyed isKey
   linked-skip e =
       rw (add-one c)
-      (record { head = λ k l. so-far .head k l ∙ sym (last-fails c (keyed b by k) (rw e)); link = λ d k l h. ⊎-elim (λ (q : d ≡ c). absurd (false≢true (rw (q, e) at h))) (λ (q : d < c). so-far .link d k q h) (below-suc l); low = so-far .low })
+      (record {
+        head = λ k l. so-far .head k l ∙ sym (last-fails c (keyed b by k) (rw e));
+        link = λ d k l h. ⊎-elim (λ (q : d ≡ c). absurd (false≢true (rw (q, e) at h))) (λ (q : d < c). so-far .link d k q h) (below-suc l);
+        lower = so-far .lower;
+      })
 
   -- a cell with key x: its link is the old head, the new head is the cell
-  pub linked-add : (x : ℕ) → keyAt b by c ≡ Of x → x < length heads → c < length links → Linked b by (c + 1) (set heads x (c + 1)) (set links c (getD heads x 0))
+  pub linked-add : (x : ℕ) → keyAt b by c ≡ Of x → x < room by → c < mostCells → linksFrom by + (mostCells + room by) ≤ length t → Linked b by (c + 1) (spliced (linksFrom by) c x t)
   unfolding keyed isKey
-  linked-add x e lx lc = rw (add-one c) (record { head = heads-are; link = links-are; low = low-are })
+  linked-add x e lx lc long = rw (add-one c) (record { head = heads-are; link = links-are; lower = lower-are })
     where
-      low-are : (d : ℕ) → getD (set links c (getD heads x 0)) d 0 ≤ d
-      low-are d =
-          ⊎-elim
-          (λ (q : eqb d c ≡ true). let s = eqb-true d c q in rw (s, getD-set-same links c (getD heads x 0) 0 lc, so-far .head x lx) (last-le c (keyed b by x)))
-          (λ (q : eqb d c ≡ false). rw (getD-set-other links c d (getD heads x 0) 0 (λ s. clashes (eq-eqb d c s) q)) (so-far .low d))
-          (decided (eqb d c))
+      fits : linksFrom by + (mostCells + x) < length t
+      fits = omega arith
+
+      here : linkIn by (spliced (linksFrom by) c x t) c ≡ last c (keyed b by x)
+      here = spliced-link (linksFrom by) c x t lc fits ∙ so-far .head x lx
+
+      there : (d : ℕ) → (d ≡ c → ⊥) → d < mostCells → linkIn by (spliced (linksFrom by) c x t) d ≡ linkIn by t d
+      there d p m =
+          spliced-other (linksFrom by) c x t (linksFrom by + d)
+          (λ (s : linksFrom by + d ≡ linksFrom by + c). p (omega arith))
+          (λ (s : linksFrom by + d ≡ linksFrom by + (mostCells + x)). omega arith)
 
       keyed-c : (k : ℕ) → keyed b by k c ≡ eqb x k
       keyed-c k = rw e
 
-      heads-are : (k : ℕ) → k < length (set heads x (suc c)) → getD (set heads x (suc c)) k 0 ≡ last (suc c) (keyed b by k)
+      lower-are : (d : ℕ) → d < mostCells → linkIn by (spliced (linksFrom by) c x t) d ≤ d
+      lower-are d m =
+          ⊎-elim
+          (λ (q : eqb d c ≡ true). let s = eqb-true d c q in let h = here in let o = last-le c (keyed b by x) in rw s (omega arith))
+          (λ (q : eqb d c ≡ false). let h = there d (λ s. clashes (eq-eqb d c s) q) m in let o = so-far .lower d m in omega arith)
+          (decided (eqb d c))
+
+      heads-are : (k : ℕ) → k < room by → headIn by (spliced (linksFrom by) c x t) k ≡ last (suc c) (keyed b by k)
       heads-are k l =
           ⊎-elim
-          (λ (q : eqb x k ≡ true). let s = eqb-true x k q in rw (← s) (getD-set-same heads x (suc c) 0 lx) ∙ sym (last-passes c (keyed b by k) (keyed-c k ∙ q)))
-          (λ (q : eqb x k ≡ false). getD-set-other heads x k (suc c) 0 (λ s. clashes (eq-eqb x k (sym s)) q) ∙ so-far .head k (rw length-set at l) ∙ sym (last-fails c (keyed b by k) (keyed-c k ∙ q)))
+          (λ (q : eqb x k ≡ true). let s = eqb-true x k q in rw (← s) (spliced-head (linksFrom by) c x t fits) ∙ add-one c ∙ sym (last-passes c (keyed b by k) (keyed-c k ∙ q)))
+          (λ (q : eqb x k ≡ false). spliced-other (linksFrom by) c x t (linksFrom by + (mostCells + k))
+          (λ (s : linksFrom by + (mostCells + k) ≡ linksFrom by + c). omega arith)
+          (λ (s : linksFrom by + (mostCells + k) ≡ linksFrom by + (mostCells + x)). clashes (eq-eqb x k (omega arith)) q)
+          ∙ so-far .head k l ∙ sym (last-fails c (keyed b by k) (keyed-c k ∙ q)))
           (decided (eqb x k))
 
-      links-are : (d k : ℕ) → d < suc c → keyed b by k d ≡ true → getD (set links c (getD heads x 0)) d 0 ≡ last d (keyed b by k)
+      links-are : (d k : ℕ) → d < suc c → keyed b by k d ≡ true → linkIn by (spliced (linksFrom by) c x t) d ≡ last d (keyed b by k)
       links-are d k l h =
           ⊎-elim
-          (λ (q : d ≡ c). let s = eqb-true x k (sym (keyed-c k) ∙ (rw q at h)) in rw (q, ← s) (getD-set-same links c (getD heads x 0) 0 lc ∙ so-far .head x lx))
-          (λ (q : d < c). getD-set-other links c d (getD heads x 0) 0 (λ s. omega arith) ∙ so-far .link d k q h)
+          (λ (q : d ≡ c). let s = eqb-true x k (sym (keyed-c k) ∙ (rw q at h)) in rw (q, ← s) here)
+          (λ (q : d < c). there d (λ (s : d ≡ c). omega arith) (omega arith) ∙ so-far .link d k q h)
           (below-suc l)
 
--- a key of a whole file is one of its control cells or nets
-pub key-below : (file : List ℕ) → judge (fileChecks file) ≡ Accepted → (by : By) (c x : ℕ) → c < cellsOf file → keyAt (boardOf file) by c ≡ Of x → x < keysOf file by
-unfolding keyAt keysOf boardOf
+-- a number of drivers has a key that fits its part
+size-fits : (drivers x : ℕ) → sizeKey drivers ≡ Of x → x < mostNets
+unfolding sizeKey
+size-fits drivers x e = go (ltb drivers 2) (ltb mostNets drivers) refl e
+  where
+    never : Nothing ≡ Of x → ⊥
+    never q = let z : _≡_ {A = ℕ} 0 1 = cc in omega arith
+
+    of : (y : ℕ) → Of y ≡ Of x → y ≡ x
+    of y q = cc
+
+    go : (a m : Bool) → ltb mostNets drivers ≡ m → cond a Nothing (cond m (Of (mostNets - 1)) (Of (drivers - 1))) ≡ Of x → x < mostNets
+    go true m h q = absurd (never q)
+    go false true h q = let s = of (mostNets - 1) q in omega arith
+    go false false h q = let s = of (drivers - 1) q in let o = ltb-false mostNets drivers h in omega arith
+
+-- a key of a whole file has a head
+pub key-below : (file : List ℕ) → judge (fileChecks file) ≡ Accepted → (by : By) (c x : ℕ) → c < cellsOf file → keyAt (boardOf file) by c ≡ Of x → x < room by
+unfolding keyAt boardOf
 key-below file ok by c x l e = go by e
   where
     whole : (p : ℕ) → p < cellsOf file → brokenAt file p ≡ false
@@ -125,9 +174,18 @@ key-below file ok by c x l e = go by e
     picked true y q = (refl, cc)
     picked false y q = let z : _≡_ {A = ℕ} 0 1 = cc in absurd (omega arith)
 
-    go : (by : By) → keyAt (boardOf file) by c ≡ Of x → x < keysOf file by
-    go ControlCell h = let q = picked _ _ h in rw (← q .1) (kept-control file whole c l (q .0) .0)
-    go NetOf h = let q = picked _ _ h in rw (← q .1) (kept-net file whole c l (q .0))
+    go : (by : By) → keyAt (boardOf file) by c ≡ Of x → x < room by
+    go ControlCell h =
+        let q = picked _ _ h in
+        let k = kept-control file whole c l (q .0) .0 in
+        let cells = laid file (shaped file ok) .cells .few in
+        rw (← q .1) (omega arith)
+    go NetOf h =
+        let q = picked _ _ h in
+        let n = kept-net file whole c l (q .0) in
+        let nets = laid file (shaped file ok) .nets .few in
+        rw (← q .1) (omega arith)
+    go Size h = size-fits _ x h
 
 -- a walk along a chain, looking for a member that passes q: nothing above `at` has
 pub record Walking (p q : ℕ → Bool) (n at : ℕ) : Type 0 where

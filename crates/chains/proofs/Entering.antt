@@ -1,10 +1,11 @@
--- Blank tables hold no position. One position more: a cell that is no output changes nothing, an output is linked by its net, a driver also by
+-- A blank table holds no position. One position more: a cell that is no output changes nothing, an output is linked by its net, a driver also by
 -- its control cell, and counted.
 use Prim.Native.Nat.{ℕ, _+_, _<_, _≤_}
 use mathlib.Core.Path.{_≡_, refl, sym, _∙_}
 use mathlib.Core.List.{List}
 use native.Mathlib.Omega.{arith}
-use lib.ListN.{length, getD, set, length-set}
+use lib.ListN.{length, getD, set, replicate, length-replicate}
+use lib.Seq.{getD-set-other}
 use Rattle.rules.specs.Basics.{count}
 use Rattle.rules.specs.File.{Board, boardOf, cellsOf}
 use Rattle.rules.specs.Drivers.{driverAt}
@@ -16,11 +17,15 @@ use Rattle.rules.specs.declared.Net.{Net}
 use Rattle.rules.specs.declared.Verdict.the-variants.{Accepted}
 use Rattle.rules.proofs.Shape.{laid, shaped}
 use Rattle.rules.proofs.DriverLaws.{is-driver, no-driver}
-use Rattle.chains.specs.Chains.{By, ControlCell, NetOf, keyAt, keysOf, Grown, Linkable}
-use Rattle.chains.specs.Filling.{Zero, Blank, Entered}
+use Rattle.words.proofs.Members.{zero-at}
+use Rattle.chains.specs.Table.{By, ControlCell, NetOf, Size, linksFrom, room, countsFrom, spareFrom, tableSize, sizesSize, countIn, spliced, oneMore, Blank, Same}
+use Rattle.chains.specs.Chains.{keyAt, Grown}
+use Rattle.chains.specs.Counts.{Counted}
+use Rattle.chains.specs.Filling.{Entered, Sized}
 use Rattle.chains.specs.declared.Key.the-variants.{Of, Nothing}
-use Rattle.chains.proofs.Chaining.{linked-none, linked-skip, linked-add, key-below}
-use Rattle.chains.proofs.CountLaws.{counted-skip, counted-add, counts-few}
+use Rattle.chains.proofs.TableLaws.{spliced-long, spliced-apart, more-long, more-before}
+use Rattle.chains.proofs.Chaining.{linked-none, linked-same, linked-skip, linked-add, key-below}
+use Rattle.chains.proofs.CountLaws.{counted-same, counted-skip, counted-add, counts-few}
 
 never : (x : ℕ) → Of x ≡ Nothing → ⊥
 never x e = let z : _≡_ {A = ℕ} 0 1 = cc in omega arith
@@ -44,78 +49,182 @@ module _ (b : Board) (c : ℕ) where
       go driver.Nothing q = q
       go (driver.Of k n) q = absurd (never (n .0) (sym (keys k n q .1) ∙ e))
 
--- blank tables are those of no position
-module _ (file : List ℕ) (ok : judge (fileChecks file) ≡ Accepted) where
-  grown-none : (by : By) (keys : ℕ) (heads links : List ℕ) → keysOf file by ≤ keys → Zero keys heads → Zero mostCells links → Grown file by 0 heads links
-  grown-none by keys heads links few h l =
-      let cells = laid file (shaped file ok) .cells .few in
-      let a = h .long in
-      let b = l .long in
-      record { checked = ok; keys = omega arith; cells = omega arith; linked = linked-none _ _ _ _ (h .zero-at) (l .zero-at) }
+-- a blank table is that of no position
+pub enter-first : (file : List ℕ) → judge (fileChecks file) ≡ Accepted → (t : List ℕ) → Blank t → Entered file 0 t
+unfolding count
+enter-first file ok t z =
+    record {
+      long = z .long;
+      by-control = grown-none ControlCell;
+      by-net = grown-none NetOf;
+      counted = record { checked = ok; counted = λ m l. z .zero-at (countsFrom + m) };
+    }
+  where
+    grown-none : (by : By) → Grown file by 0 t
+    grown-none by = record { checked = ok; linked = linked-none (boardOf file) by t (z .zero-at) }
 
-  pub enter-first : (heads links net-heads net-links counts : List ℕ) → Blank heads links net-heads net-links counts → Entered file 0 heads links net-heads net-links counts
-  unfolding keysOf count
-  enter-first heads links net-heads net-links counts z =
-      let nets = laid file (shaped file ok) .nets .few in
-      let a = z .counts-are .long in
-      record { by-control = grown-none ControlCell mostCells _ _ (laid file (shaped file ok) .cells .few) (z .heads-are) (z .links-are); by-net = grown-none NetOf mostNets _ _ nets (z .net-heads-are) (z .net-links-are); counted = record { checked = ok; nets = omega arith; counted = λ m l. z .counts-are .zero-at m } }
+-- the chains of a family by one cell more
+module _ (file : List ℕ) (by : By) (c : ℕ) (t : List ℕ) (g : Grown file by c t) where
+  pub grown-skip : keyAt (boardOf file) by c ≡ Nothing → Grown file by (c + 1) t
+  grown-skip e = record { checked = g .checked; linked = linked-skip (boardOf file) by c t (g .linked) e }
 
-module _ (file : List ℕ) (by : By) (c : ℕ) (heads links : List ℕ) (g : Grown file by c heads links) where
-  grown-skip : keyAt (boardOf file) by c ≡ Nothing → Grown file by (c + 1) heads links
-  grown-skip e =
-      record { checked = g .checked; keys = g .keys; cells = g .cells; linked = linked-skip _ _ _ _ _ (g .linked) e }
+  pub grown-add : linksFrom by + (mostCells + room by) ≤ length t → c < cellsOf file → (x : ℕ) → keyAt (boardOf file) by c ≡ Of x → Grown file by (c + 1) (spliced (linksFrom by) c x t)
+  grown-add long l x e =
+      record {
+        checked = g .checked;
+        linked = linked-add (boardOf file) by c t (g .linked) x e (key-below file (g .checked) by c x l e) (let f = laid file (shaped file (g .checked)) .cells .few in omega arith) long;
+      }
 
-  module _ (x : ℕ) (l : c < cellsOf file) (e : keyAt (boardOf file) by c ≡ Of x) where
-    -- where the cell's head and link stand
-    pub linkable : Linkable x c heads links
-    linkable =
-        let k = key-below file (g .checked) by c x l e in
-        let r = g .keys in
-        let s = g .cells in
-        let f = laid file (shaped file (g .checked)) .cells .few in
-        record { key = omega arith; cell = omega arith; few = omega arith }
+-- a part that another store leaves
+pub grown-same : (file : List ℕ) (by : By) (n : ℕ) (t t′ : List ℕ) → n ≤ cellsOf file → Grown file by n t → Same (linksFrom by) (linksFrom by + (mostCells + room by)) t t′ → Grown file by n t′
+grown-same file by n t t′ l g same =
+    let f = laid file (shaped file (g .checked)) .cells .few in
+    record { checked = g .checked; linked = linked-same (boardOf file) by n t t′ (omega arith) same (g .linked) }
 
-    grown-add : Grown file by (c + 1) (set heads x (c + 1)) (set links c (getD heads x 0))
-    grown-add =
-        record { checked = g .checked; keys = rw length-set (g .keys); cells = rw length-set (g .cells); linked = linked-add (boardOf file) by c heads links (g .linked) x e (linkable .key) (linkable .cell) }
+-- the families and the numbers of drivers lie apart
+module _ (c x : ℕ) (t : List ℕ) (l : c < mostCells) where
+  abbrev Kept : By → By → Type 0
+  Kept by other = Same (linksFrom by) (linksFrom by + (mostCells + room by)) t (spliced (linksFrom other) c x t)
 
-module _ (file : List ℕ) (c : ℕ) (heads links net-heads net-links counts : List ℕ) (so-far : Entered file c heads links net-heads net-links counts) (l : c < cellsOf file) where
-  pub enter-none : keyAt (boardOf file) NetOf c ≡ Nothing → Entered file (c + 1) heads links net-heads net-links counts
+  net-apart-control : x < room NetOf → Kept ControlCell NetOf
+  net-apart-control m = spliced-apart (linksFrom NetOf) c x t _ _ mostNets l m (λ i p q r s. omega arith)
+
+  control-apart-net : x < room ControlCell → Kept NetOf ControlCell
+  control-apart-net m = spliced-apart (linksFrom ControlCell) c x t _ _ mostCells l m (λ i p q r s. omega arith)
+
+-- each family lies before the numbers of drivers
+before-counts : (by : By) → linksFrom by + (mostCells + room by) ≤ countsFrom
+before-counts ControlCell = omega arith
+before-counts NetOf = omega arith
+before-counts Size = omega arith
+
+apart-counts : (by : By) (c x : ℕ) (t : List ℕ) → c < mostCells → x < room by → Same countsFrom (countsFrom + mostNets) t (spliced (linksFrom by) c x t)
+apart-counts by c x t l m =
+    let b = before-counts by in
+    spliced-apart (linksFrom by) c x t _ _ (room by) l m (λ i p q r s. omega arith)
+
+module _ (file : List ℕ) (c : ℕ) (t : List ℕ) (so-far : Entered file c t) (l : c < cellsOf file) where
+  few : c < mostCells
+  few = let f = laid file (shaped file (so-far .by-net .checked)) .cells .few in omega arith
+
+  pub enter-none : keyAt (boardOf file) NetOf c ≡ Nothing → Entered file (c + 1) t
   enter-none e =
       let d = no-output _ _ e in
-      record { by-control = grown-skip _ _ _ _ _ (so-far .by-control) (no-control _ _ d); by-net = grown-skip _ _ _ _ _ (so-far .by-net) e; counted = counted-skip _ _ _ (so-far .counted) d }
+      record {
+        long = so-far .long;
+        by-control = grown-skip _ _ _ _ (so-far .by-control) (no-control _ _ d);
+        by-net = grown-skip _ _ _ _ (so-far .by-net) e;
+        counted = counted-skip _ _ _ (so-far .counted) d;
+      }
 
-  module _ (n : ℕ) (e : keyAt (boardOf file) NetOf c ≡ Of n) (net-heads′ net-links′ : List ℕ) (nh : net-heads′ ≡ set net-heads n (c + 1)) (nl : net-links′ ≡ set net-links c (getD net-heads n 0)) where
-    by-net′ : Grown file NetOf (c + 1) net-heads′ net-links′
-    by-net′ = rw (nh, nl) (grown-add _ _ _ _ _ (so-far .by-net) n l e)
+  -- linked by its net n
+  abbrev netted : ℕ → List ℕ
+  netted n = spliced (linksFrom NetOf) c n t
 
-    pub enter-output : driverAt (boardOf file) c ≡ driver.Nothing → Entered file (c + 1) heads links net-heads′ net-links′ counts
+  module _ (n : ℕ) (e : keyAt (boardOf file) NetOf c ≡ Of n) where
+    net-fits : n < room NetOf
+    net-fits = key-below file (so-far .by-net .checked) NetOf c n l e
+
+    netted-long : length (netted n) ≡ tableSize
+    netted-long = spliced-long (linksFrom NetOf) c n t ∙ so-far .long
+
+    netted-control : Grown file ControlCell c (netted n)
+    netted-control = grown-same file ControlCell c t (netted n) (omega arith) (so-far .by-control) (net-apart-control c n t few net-fits)
+
+    netted-net : Grown file NetOf (c + 1) (netted n)
+    netted-net = grown-add file NetOf c t (so-far .by-net) (let q = so-far .long in omega arith) l n e
+
+    netted-counts : Counted file c (netted n)
+    netted-counts = counted-same file c t (netted n) (apart-counts NetOf c n t few net-fits) (so-far .counted)
+
+    -- where the stores stand
+    pub output-fits : (c < mostCells) × (n < mostNets)
+    output-fits = (few, net-fits)
+
+    pub enter-output : driverAt (boardOf file) c ≡ driver.Nothing → Entered file (c + 1) (netted n)
     enter-output d =
-        record { by-control = grown-skip _ _ _ _ _ (so-far .by-control) (no-control _ _ d); by-net = by-net′; counted = counted-skip _ _ _ (so-far .counted) d }
+        record {
+          long = netted-long;
+          by-control = grown-skip _ _ _ _ netted-control (no-control _ _ d);
+          by-net = netted-net;
+          counted = counted-skip _ _ _ netted-counts d;
+        }
 
-    module _ (k : Position) (m : Net) (d : driverAt (boardOf file) c ≡ driver.Of k m) where
-      same-net : m .0 ≡ n
-      same-net = let q = sym (keys _ _ k m d .1) ∙ e in of (m .0) n q
-        where
-          of : (x y : ℕ) → Of x ≡ Of y → x ≡ y
-          of x y q = cc
+  -- linked by its net and its control cell, and counted
+  module _ (k : Position) (n : Net) (d : driverAt (boardOf file) c ≡ driver.Of k n) where
+    control-fits : k .0 < room ControlCell
+    control-fits = key-below file (so-far .by-net .checked) ControlCell c (k .0) l (keys (boardOf file) c k n d .0)
 
-      pub linkable-control : Linkable (k .0) c heads links
-      linkable-control = linkable _ _ _ _ _ (so-far .by-control) (k .0) l (keys _ _ k m d .0)
+    own : keyAt (boardOf file) NetOf c ≡ Of (n .0)
+    own = keys (boardOf file) c k n d .1
 
-      pub enter-driver : (heads′ links′ : List ℕ) → heads′ ≡ set heads (k .0) (c + 1) → links′ ≡ set links c (getD heads (k .0) 0) → Entered file (c + 1) heads′ links′ net-heads′ net-links′ (set counts n (getD counts n 0 + 1))
-      enter-driver heads′ links′ h k′ =
-          rw (h, k′, ← same-net)
-          (record { by-control = grown-add _ _ _ _ _ (so-far .by-control) (k .0) l (keys _ _ k m d .0); by-net = by-net′; counted = counted-add _ _ _ (so-far .counted) k m l d })
+    abbrev both : List ℕ
+    both = spliced (linksFrom ControlCell) c (k .0) (netted (n .0))
 
-  -- where the count of an output's net stands, and that one more fits
-  pub counts-fit : (n : ℕ) → keyAt (boardOf file) NetOf c ≡ Of n → (n < length counts) × (n < mostNets) × (getD counts n 0 < mostCells)
-  unfolding keysOf
-  counts-fit n e =
-      let sizes = laid file (shaped file (so-far .by-net .checked)) in
-      let b = key-below file (so-far .by-net .checked) NetOf c n l e in
-      let r = so-far .counted .nets in
-      let few = sizes .cells .few in
-      let nets = sizes .nets .few in
-      let s = counts-few file c counts (so-far .counted) n (omega arith) in
-      (omega arith, omega arith, omega arith)
+    both-counts : Counted file c both
+    both-counts = counted-same file c (netted (n .0)) both (apart-counts ControlCell c (k .0) (netted (n .0)) few control-fits) (netted-counts (n .0) own)
+
+    -- where the stores stand, and that one driver more fits
+    pub driver-fits : (c < mostCells) × (n .0 < mostNets) × (k .0 < mostCells) × (countIn both (n .0) < mostCells)
+    driver-fits =
+        let f = few in
+        let o = counts-few file c both both-counts (n .0) (net-fits (n .0) own) in
+        (few, net-fits (n .0) own, control-fits, omega arith)
+
+    both-long : length both ≡ tableSize
+    both-long = spliced-long (linksFrom ControlCell) c (k .0) (netted (n .0)) ∙ netted-long (n .0) own
+
+    both-control : Grown file ControlCell (c + 1) both
+    both-control =
+        grown-add file ControlCell c (netted (n .0)) (netted-control (n .0) own) (let q = netted-long (n .0) own in omega arith) l (k .0) (keys (boardOf file) c k n d .0)
+
+    both-net : Grown file NetOf (c + 1) both
+    both-net =
+        grown-same file NetOf (c + 1) (netted (n .0)) both (omega arith) (netted-net (n .0) own) (control-apart-net c (k .0) (netted (n .0)) few control-fits)
+
+    pub enter-driver : Entered file (c + 1) (oneMore (n .0) both)
+    enter-driver =
+        record {
+          long = more-long (n .0) both ∙ both-long;
+          by-control = grown-same file ControlCell (c + 1) both _ (omega arith) both-control (more-before (n .0) both _ _ (before-counts ControlCell));
+          by-net = grown-same file NetOf (c + 1) both _ (omega arith) both-net (more-before (n .0) both _ _ (before-counts NetOf));
+          counted = counted-add file c both both-counts k n (driver-fits .1) both-long d;
+        }
+
+-- no position has a chain by size in a table of zeros; one control cell more
+pub size-first : (file : List ℕ) → judge (fileChecks file) ≡ Accepted → Sized file 0 (replicate sizesSize 0)
+size-first file ok =
+    record {
+      long = length-replicate {A = ℕ} sizesSize 0;
+      by-size = record { checked = ok; linked = linked-none (boardOf file) Size (replicate sizesSize 0) (zero-at sizesSize) };
+    }
+
+module _ (file : List ℕ) (k : ℕ) (sizes : List ℕ) (so-far : Sized file k sizes) (l : k < cellsOf file) where
+  pub size-none : keyAt (boardOf file) Size k ≡ Nothing → Sized file (k + 1) sizes
+  size-none e = record { long = so-far .long; by-size = grown-skip _ _ _ _ (so-far .by-size) e }
+
+  module _ (x : ℕ) (e : keyAt (boardOf file) Size k ≡ Of x) where
+    pub size-fits : (k < mostCells) × (x < mostNets)
+    size-fits =
+        let f = laid file (shaped file (so-far .by-size .checked)) .cells .few in
+        (omega arith, key-below file (so-far .by-size .checked) Size k x l e)
+
+    pub size-add : Sized file (k + 1) (spliced (linksFrom Size) k x sizes)
+    size-add =
+        record {
+          long = spliced-long (linksFrom Size) k x sizes ∙ so-far .long;
+          by-size = grown-add file Size k sizes (so-far .by-size) (let q = so-far .long in omega arith) l x e;
+        }
+
+-- what is kept in the spare room leaves the chains by control cell and the numbers of drivers
+module _ (i v : ℕ) (t : List ℕ) (l : i < mostCells) where
+  spare-apart : (a z : ℕ) → ((j : ℕ) → a ≤ j → j < z → j ≡ spareFrom + i → ⊥) → Same a z t (set t (spareFrom + i) v)
+  spare-apart a z apart = record { entry = λ j p q. getD-set-other t (spareFrom + i) j v 0 (apart j p q) }
+
+  pub spare-control : (file : List ℕ) → Grown file ControlCell (cellsOf file) t → Grown file ControlCell (cellsOf file) (set t (spareFrom + i) v)
+  spare-control file g =
+      grown-same file ControlCell (cellsOf file) t _ (omega arith) g (spare-apart _ _ (λ j p q (e : j ≡ spareFrom + i). omega arith))
+
+  pub spare-counts : (file : List ℕ) → Counted file (cellsOf file) t → Counted file (cellsOf file) (set t (spareFrom + i) v)
+  spare-counts file g =
+      counted-same file (cellsOf file) t _ (spare-apart _ _ (λ j p q (e : j ≡ spareFrom + i). omega arith)) g

@@ -1,67 +1,126 @@
 -- Walks along the chains of a whole file, from a head or a link down to the last: what each step of such a loop needs.
-use Prim.Native.Nat.{ℕ, suc, _-_, _<_, _≤_}
-use mathlib.Core.Path.{_≡_, sym, _∙_}
-use mathlib.Core.Bool.{Bool, true, false}
+use Prim.Native.Nat.{ℕ, zero, suc, _+_, _-_, _<_, _≤_}
+use mathlib.Core.Path.{_≡_, refl, sym, _∙_, ap}
+use mathlib.Core.Bool.{Bool, true, false, cond}
 use mathlib.Core.List.{List}
 use native.Mathlib.Omega.{arith}
-use lib.ListN.{length, getD}
-use Rattle.rules.specs.Basics.{any}
+use Rattle.rules.specs.Basics.{any, count, digit}
 use Rattle.rules.specs.File.{boardOf, cellsOf, netsOf}
 use Rattle.rules.proofs.Tests.{any-none}
-use Rattle.chains.specs.Chains.{By, ControlCell, NetOf, keyed, keysOf, Chains}
-use Rattle.chains.proofs.Chaining.{last-le, Walking, walk-start, walk-next, walk-found, walk-ended, walk-member}
+use Rattle.rules.proofs.Shape.{laid, shaped}
+use Rattle.rules.specs.Refusals.{judge, fileChecks, mostCells, mostNets}
+use Rattle.rules.specs.declared.Verdict.the-variants.{Accepted}
+use Rattle.chains.specs.Table.{By, room, headIn, linkIn}
+use Rattle.chains.specs.Chains.{last, keyed, Chains}
+use Rattle.chains.proofs.Chaining.{last-le, last-member, last-again, Walking, walk-start, walk-next, walk-found, walk-ended, walk-member}
+
+-- the cells and the nets of a whole file fit the table
+pub cell-fits : (file : List ℕ) → judge (fileChecks file) ≡ Accepted → (c : ℕ) → c < cellsOf file → c < mostCells
+cell-fits file ok c l = let f = laid file (shaped file ok) .cells .few in omega arith
+
+pub net-fits : (file : List ℕ) → judge (fileChecks file) ≡ Accepted → (n : ℕ) → n < netsOf file → n < mostNets
+net-fits file ok n l = let f = laid file (shaped file ok) .nets .few in omega arith
+
+pub cells-fit : (file : List ℕ) → judge (fileChecks file) ≡ Accepted → cellsOf file ≤ mostCells
+cells-fit file ok = laid file (shaped file ok) .cells .few
 
 -- 1 + (at - 1) is at
 pub above : (at : ℕ) → 0 < at → suc (at - 1) ≡ at
 above at h = omega arith
 
--- a control cell or a net of the file has a head
-pub cell-in : (file heads links : List ℕ) (k : ℕ) → Chains file ControlCell heads links → k < cellsOf file → k < length heads
-unfolding keysOf
-cell-in file heads links k ch l = let r = ch .keys in omega arith
-
-pub net-in : (file heads links : List ℕ) (n : ℕ) → Chains file NetOf heads links → n < netsOf file → n < length heads
-unfolding keysOf
-net-in file heads links n ch l = let r = ch .keys in omega arith
-
-module _ (file : List ℕ) (by : By) (heads links : List ℕ) (chains : Chains file by heads links) where
+module _ (file : List ℕ) (by : By) (t : List ℕ) (chains : Chains file by t) where
   -- a head or a link is no higher than it may be
-  pub head-low : (k : ℕ) → k < length heads → getD heads k 0 ≤ cellsOf file
+  pub head-low : (k : ℕ) → k < room by → headIn by t k ≤ cellsOf file
   head-low k l = rw (chains .linked .head k l) (last-le (cellsOf file) (keyed (boardOf file) by k))
 
-  pub link-low : (c : ℕ) → getD links c 0 ≤ c
-  link-low c = chains .linked .low c
+  pub link-low : (c : ℕ) → c < cellsOf file → linkIn by t c ≤ c
+  link-low c l = chains .linked .lower c (cell-fits file (chains .checked) c l)
 
   module _ (k : ℕ) (q : ℕ → Bool) (only : (c : ℕ) → q c ≡ true → keyed (boardOf file) by k c ≡ true) where
     abbrev pub Walk : ℕ → ℕ → Type 0
     Walk n at = Walking (keyed (boardOf file) by k) q n at
 
     -- from a head: all positions of the key
-    pub from-head : k < length heads → (at : ℕ) → at ≡ getD heads k 0 → Walk (cellsOf file) at
+    pub from-head : k < room by → (at : ℕ) → at ≡ headIn by t k → Walk (cellsOf file) at
     from-head l at e = walk-start _ q only (cellsOf file) at (e ∙ chains .linked .head k l)
 
     -- from a link: those below a position of the key
-    pub from-link : (c : ℕ) → c < cellsOf file → keyed (boardOf file) by k c ≡ true → (at : ℕ) → at ≡ getD links c 0 → Walk c at
+    pub from-link : (c : ℕ) → c < cellsOf file → keyed (boardOf file) by k c ≡ true → (at : ℕ) → at ≡ linkIn by t c → Walk c at
     from-link c l h at e = walk-start _ q only c at (e ∙ chains .linked .link c k l h)
 
+    -- the step's cell, which `at` names, is on the chain
+    pub on-chain : (n at cell : ℕ) → Walk n at → 0 < at → cell ≡ at - 1 → keyed (boardOf file) by k cell ≡ true
+    on-chain n at cell w some e =
+        let up : Walk n (suc (at - 1)) = rw (above at some) w in
+        rw e (walk-member _ q only n (at - 1) up)
+
     -- one step further
-    pub step : (n at next : ℕ) → n ≤ cellsOf file → Walk n at → 0 < at → q (at - 1) ≡ false → next ≡ getD links (at - 1) 0 → Walk n next
-    step n at next l w p f e =
-        let up : Walk n (suc (at - 1)) = rw (above at p) w in
-        let member = walk-member _ q only n (at - 1) up in
-        walk-next _ q only n (at - 1) next up f (e ∙ chains .linked .link (at - 1) k (let u = w .under in omega arith) member)
+    pub step : (n at cell next : ℕ) → n ≤ cellsOf file → Walk n at → 0 < at → cell ≡ at - 1 → q cell ≡ false → next ≡ linkIn by t cell → Walk n next
+    step n at cell next l w some e f g =
+        let up : Walk n (suc (at - 1)) = rw (above at some) w in
+        let u = w .under in
+        walk-next _ q only n (at - 1) next up (ap q (sym e) ∙ f) (g ∙ ap (linkIn by t) e ∙ chains .linked .link (at - 1) k (omega arith) (walk-member _ q only n (at - 1) up))
 
-    -- the step's position has the key
-    pub on-chain : (n at : ℕ) → Walk n at → 0 < at → keyed (boardOf file) by k (at - 1) ≡ true
-    on-chain n at w p = let up : Walk n (suc (at - 1)) = rw (above at p) w in walk-member _ q only n (at - 1) up
-
-    pub hit : (n at : ℕ) → Walk n at → 0 < at → q (at - 1) ≡ true → any n q ≡ true
-    hit n at w p t = let up : Walk n (suc (at - 1)) = rw (above at p) w in walk-found _ q only n (at - 1) up t
+    pub hit : (n at cell : ℕ) → Walk n at → 0 < at → cell ≡ at - 1 → q cell ≡ true → any n q ≡ true
+    hit n at cell w some e h =
+        let up : Walk n (suc (at - 1)) = rw (above at some) w in
+        walk-found _ q only n (at - 1) up (ap q (sym e) ∙ h)
 
     pub missed : (n at : ℕ) → Walk n at → at ≤ 0 → any n q ≡ false
     missed n at w z = let e : at ≡ 0 = omega arith in walk-ended _ q only n (rw e at w)
 
   -- a head that is none: no position has the key
-  pub none-keyed : (k : ℕ) → k < length heads → getD heads k 0 ≡ 0 → (c : ℕ) → c < cellsOf file → keyed (boardOf file) by k c ≡ false
+  pub none-keyed : (k : ℕ) → k < room by → headIn by t k ≡ 0 → (c : ℕ) → c < cellsOf file → keyed (boardOf file) by k c ≡ false
   none-keyed k l z c m =
       any-none _ _ (missed k (keyed (boardOf file) by k) (λ d h. h) (cellsOf file) 0 (from-head k (keyed (boardOf file) by k) (λ d h. h) l 0 (sym z)) (omega arith)) m
+
+-- a walk that counts: what it has counted, with those of the chain below, are all of the chain
+pub record Tallied (p : ℕ → Bool) (n at found : ℕ) : Type 0 where
+  pub top : last at p ≡ at
+  pub under : at ≤ n
+  pub sum : found + count at p ≡ count n p
+
+-- the last that passes bounds the count
+count-last : (n : ℕ) (p : ℕ → Bool) → count (last n p) p ≡ count n p
+unfolding last count
+count-last zero p = refl
+count-last (suc n) p = go (p n) refl (count-last n p)
+  where
+    go : (a : Bool) → p n ≡ a → count (last n p) p ≡ count n p → count (cond a (suc n) (last n p)) p ≡ count n p + digit (p n)
+    go true e r = refl
+    go false e r = r ∙ rw e (omega arith)
+
+module _ (file : List ℕ) (by : By) (t : List ℕ) (chains : Chains file by t) (k : ℕ) where
+  abbrev pub Tally : ℕ → ℕ → Type 0
+  Tally at found = Tallied (keyed (boardOf file) by k) (cellsOf file) at found
+
+  pub tally-start : k < room by → (at : ℕ) → at ≡ headIn by t k → Tally at 0
+  tally-start l at e =
+      rw (e, chains .linked .head k l)
+      (record {
+        top = last-again (cellsOf file) (keyed (boardOf file) by k);
+        under = last-le (cellsOf file) (keyed (boardOf file) by k);
+        sum = (let c = count-last (cellsOf file) (keyed (boardOf file) by k) in omega arith);
+      })
+
+  pub tally-next : (at found cell next : ℕ) → Tally at found → 0 < at → cell ≡ at - 1 → next ≡ linkIn by t cell → Tally next (found + 1)
+  unfolding count
+  tally-next at found cell next w some named e =
+      let p = keyed (boardOf file) by k in
+      let u = w .under in
+      let on = last-member at p (at - 1) (w .top ∙ sym (above at some)) in
+      let whole : count at p ≡ count (at - 1) p + 1 = ap (λ (x : ℕ). count x p) (sym (above at some)) ∙ ap (λ (x : Bool). count (at - 1) p + digit x) on in
+      rw (e, named, chains .linked .link (at - 1) k (omega arith) on)
+      (record {
+        top = last-again (at - 1) p;
+        under = (let v = last-le (at - 1) p in omega arith);
+        sum = (let s = w .sum in let c = count-last (at - 1) p in omega arith);
+      })
+
+  pub tally-ended : (at found : ℕ) → Tally at found → at ≤ 0 → found ≡ count (cellsOf file) (keyed (boardOf file) by k)
+  unfolding count
+  tally-ended at found w z =
+      let e : at ≡ 0 = omega arith in
+      let s = w .sum in
+      let c : count at (keyed (boardOf file) by k) ≡ 0 = ap (λ (x : ℕ). count x (keyed (boardOf file) by k)) e in
+      omega arith

@@ -1,32 +1,37 @@
--- Chains of outputs: by control cell, and by net. A head is the highest output of a key, a link the next lower output of the same key; both
--- are 1 + a position, and 0 is none.
-use Prim.Native.Nat.{ℕ, zero, suc, _<_, _≤_}
+-- Chains in the table: outputs by control cell and by net, control cells by their number of drivers. A head is the highest position of a key, a
+-- link the next lower position of the same key; both are 1 + a position, and 0 is none.
+use Prim.Native.Nat.{ℕ, zero, suc, _-_, _<_, _≤_}
 use mathlib.Core.Path.{_≡_}
-use mathlib.Core.Bool.{Bool, true, false, cond, _||_}
+use mathlib.Core.Bool.{Bool, true, false, cond, _&&_, _||_}
 use mathlib.Core.List.{List}
-use lib.Dec.{eqb}
-use lib.ListN.{length, getD}
-use Rattle.rules.specs.File.{Board, boardOf, cellsOf, netsOf, netOf}
+use lib.Dec.{eqb, ltb}
+use Rattle.rules.specs.Basics.{count}
+use Rattle.rules.specs.File.{Board, boardOf, cellsOf, netOf}
 use Rattle.rules.specs.Drivers.{controlled, controlFor, alwaysOn}
-use Rattle.rules.specs.Refusals.{judge, fileChecks, mostCells}
+use Rattle.rules.specs.Refusals.{judge, fileChecks, mostCells, mostNets}
 use Rattle.rules.specs.declared.Verdict.the-variants.{Accepted}
+use Rattle.chains.specs.Table.{By, ControlCell, NetOf, Size, room, headIn, linkIn}
 use Rattle.chains.specs.declared.Key.{Key}
 use Rattle.chains.specs.declared.Key.the-variants.{Of, Nothing}
-
--- what a chain goes by
-pub data By : Type 0 where
-  ControlCell : By
-  NetOf : By
 
 -- 1 + the highest number below n that passes, 0 where none does
 unfoldable pub last : ℕ → (ℕ → Bool) → ℕ
 last zero p = 0
 last (suc n) p = cond (p n) (suc n) (last n p)
 
--- the key of the cell at c: a driver's control cell, or an output's net
+-- how many drivers control cell k has
+unfoldable pub driversFor : Board → ℕ → ℕ
+driversFor b k = count (b .size) (λ c. controlled b c && eqb (controlFor b c) k)
+
+-- the key of a control cell with so many drivers: one less, since there are at most as many as nets; with one driver or none it needs no chain
+unfoldable pub sizeKey : ℕ → Key
+sizeKey drivers = cond (ltb drivers 2) Nothing (cond (ltb mostNets drivers) (Of (mostNets - 1)) (Of (drivers - 1)))
+
+-- the key of the cell at c: a driver's control cell, an output's net, a control cell's number of drivers
 unfoldable pub keyAt : Board → By → ℕ → Key
 keyAt b ControlCell c = cond (controlled b c) (Of (controlFor b c)) Nothing
 keyAt b NetOf c = cond (controlled b c || alwaysOn b c) (Of (netOf (b .cell c))) Nothing
+keyAt b Size c = sizeKey (driversFor b c)
 
 unfoldable pub isKey : Key → ℕ → Bool
 isKey (Of x) k = eqb x k
@@ -37,29 +42,16 @@ unfoldable pub keyed : Board → By → ℕ → ℕ → Bool
 keyed b by k c = isKey (keyAt b by c) k
 
 -- the chains of the positions below n
-pub record Linked (b : Board) (by : By) (n : ℕ) (heads links : List ℕ) : Type 0 where
-  pub head : (k : ℕ) → k < length heads → getD heads k 0 ≡ last n (keyed b by k)
-  pub link : (c k : ℕ) → c < n → keyed b by k c ≡ true → getD links c 0 ≡ last c (keyed b by k)
-  pub low : (c : ℕ) → getD links c 0 ≤ c
+pub record Linked (b : Board) (by : By) (n : ℕ) (t : List ℕ) : Type 0 where
+  pub head : (k : ℕ) → k < room by → headIn by t k ≡ last n (keyed b by k)
+  pub link : (c k : ℕ) → c < n → keyed b by k c ≡ true → linkIn by t c ≡ last c (keyed b by k)
+  pub lower : (c : ℕ) → c < mostCells → linkIn by t c ≤ c
 
--- how many keys there are
-unfoldable pub keysOf : List ℕ → By → ℕ
-keysOf file ControlCell = cellsOf file
-keysOf file NetOf = netsOf file
-
--- a head's place k in its table, and a position's c in the table of links
-pub record Linkable (k c : ℕ) (heads links : List ℕ) : Type 0 where
-  pub key : k < length heads
-  pub cell : c < length links
-  pub few : c < mostCells
-
--- the chains of the first n positions of a whole file, in tables with room for all
-pub record Grown (file : List ℕ) (by : By) (n : ℕ) (heads links : List ℕ) : Type 0 where
+-- the chains of the first n positions of a whole file
+pub record Grown (file : List ℕ) (by : By) (n : ℕ) (t : List ℕ) : Type 0 where
   pub checked : judge (fileChecks file) ≡ Accepted
-  pub keys : keysOf file by ≤ length heads
-  pub cells : cellsOf file ≤ length links
-  pub linked : Linked (boardOf file) by n heads links
+  pub linked : Linked (boardOf file) by n t
 
 -- all chains of a whole file
-abbrev pub Chains : List ℕ → By → List ℕ → List ℕ → Type 0
-Chains file by heads links = Grown file by (cellsOf file) heads links
+abbrev pub Chains : List ℕ → By → List ℕ → Type 0
+Chains file by t = Grown file by (cellsOf file) t

@@ -1,38 +1,34 @@
--- The tables that a board is judged by: lent blank, and left filled with a whole file's chains and counts.
-use Prim.Native.Nat.{ℕ, _≤_}
+-- What the lent table holds while and after it is filled with a whole file's chains and numbers of drivers.
+use Prim.Native.Nat.{ℕ}
 use mathlib.Core.Path.{_≡_}
 use mathlib.Core.List.{List}
-use lib.ListN.{length, getD}
+use lib.ListN.{length}
 use Rattle.rules.specs.File.{cellsOf}
-use Rattle.rules.specs.Refusals.{judge, fileChecks, mostCells, mostNets}
+use Rattle.rules.specs.Refusals.{judge, fileChecks}
 use Rattle.rules.specs.declared.Verdict.the-variants.{Accepted}
-use Rattle.chains.specs.Chains.{ControlCell, NetOf, Grown}
+use Rattle.chains.specs.Table.{ControlCell, NetOf, Size, tableSize, sizesSize, Blank}
+use Rattle.chains.specs.Chains.{Grown}
 use Rattle.chains.specs.Counts.{Counted}
 
--- a table of at least so many entries, all 0
-pub record Zero (most : ℕ) (table : List ℕ) : Type 0 where
-  pub long : most ≤ length table
-  pub zero-at : (i : ℕ) → getD table i 0 ≡ 0
-
-pub record Blank (heads links netHeads netLinks counts : List ℕ) : Type 0 where
-  pub heads-are : Zero mostCells heads
-  pub links-are : Zero mostCells links
-  pub net-heads-are : Zero mostNets netHeads
-  pub net-links-are : Zero mostCells netLinks
-  pub counts-are : Zero mostNets counts
-
--- a whole file and blank tables
-pub record Fillable (file : List ℕ) (cells : ℕ) (heads links netHeads netLinks counts : List ℕ) : Type 0 where
+-- a whole file, its number of cells, and a table that holds nothing yet
+pub record Fillable (file : List ℕ) (cells : ℕ) (t : List ℕ) : Type 0 where
   pub checked : judge (fileChecks file) ≡ Accepted
   pub cells-are : cells ≡ cellsOf file
-  pub blank : Blank heads links netHeads netLinks counts
+  pub blank : Blank t
 
--- the chains and counts of the first n positions
-pub record Entered (file : List ℕ) (n : ℕ) (heads links netHeads netLinks counts : List ℕ) : Type 0 where
-  pub by-control : Grown file ControlCell n heads links
-  pub by-net : Grown file NetOf n netHeads netLinks
-  pub counted : Counted file n counts
+-- the chains of outputs and the numbers of drivers of the first n positions; each part is a field, since a later use of its room gives up
+-- that part alone
+pub record Entered (file : List ℕ) (n : ℕ) (t : List ℕ) : Type 0 where
+  pub long : length t ≡ tableSize
+  pub by-control : Grown file ControlCell n t
+  pub by-net : Grown file NetOf n t
+  pub counted : Counted file n t
 
 -- those of all positions
-abbrev pub Filled : List ℕ → List ℕ → List ℕ → List ℕ → List ℕ → List ℕ → Type 0
-Filled file heads links netHeads netLinks counts = Entered file (cellsOf file) heads links netHeads netLinks counts
+abbrev pub Filled : List ℕ → List ℕ → Type 0
+Filled file t = Entered file (cellsOf file) t
+
+-- the chains by size of the first n positions, in a table of their own
+pub record Sized (file : List ℕ) (n : ℕ) (sizes : List ℕ) : Type 0 where
+  pub long : length sizes ≡ sizesSize
+  pub by-size : Grown file Size n sizes

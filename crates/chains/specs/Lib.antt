@@ -1,4 +1,5 @@
--- The tables of a board: chains of outputs, numbers of drivers, and the sets that walks along them gather.
+-- The lent table of a board: chains, numbers of drivers, and the sets that walks along them gather.
+pub mod Table
 pub mod Chains
 pub mod Counts
 pub mod Filling

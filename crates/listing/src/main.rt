@@ -6,12 +6,11 @@ ghost use lib.ListN.{length};
 ghost use lib.Seq.{paste};
 ghost use Rattle.rules.specs.File.{boardOf, cellsOf};
 ghost use Rattle.rules.specs.Vectors.{totalOf};
-ghost use Rattle.chains.specs.Filling.{Blank};
+ghost use Rattle.chains.specs.Table.{Blank};
 ghost use Rattle.select.specs.Turns.{Ready};
 ghost use Rattle.plan.specs.Planning.{PlanOf};
-use blocks::MOST_CELLS;
-use blocks::MOST_NETS;
 use blocks::read_sizes;
+use chains::TABLE;
 use libc::STDERR_FILENO;
 use libc::STDIN_FILENO;
 use libc::STDOUT_FILENO;
@@ -109,23 +108,16 @@ fn say_row(t: usize, group: usize, row: &[u8]) -> bool
     say(&line, end)
 }
 
-// Vector t of an admitted board, as a line.
-fn say_vector(
-    file: &[u8],
-    heads: &[u16],
-    links: &[u16],
-    counts: &[u16],
-    cells: usize,
-    plan: Plan,
-    t: usize,
-) -> bool
-    requires { ⌜ Ready (now file) (now heads) (now links) (now counts) ⌝ }
+// Vector t of an admitted board, as a line; the table can be used again.
+fn say_vector(file: &[u8], table: &mut [u16; TABLE], cells: usize, plan: Plan, t: usize) -> bool
+    requires { ⌜ Ready (now file) (now table) ⌝ }
     requires { ⌜ cells ≡ cellsOf (now file) ⌝ }
     requires { ⌜ PlanOf (boardOf (now file)) plan ⌝ }
     requires { ⌜ t < totalOf (boardOf (now file)) ⌝ }
+    ensures { λ r. ⌜ Ready (now (file .entry)) (now (table .exit)) ⌝ }
 {
     let mut row = [0u8; ROW];
-    let group = write_vector(file, heads, links, counts, cells, plan, t, &mut row);
+    let group = write_vector(file, table, cells, plan, t, &mut row);
     let bytes = row_bytes(cells);
     say_row(t, group, &row[0..bytes])
 }
@@ -139,17 +131,17 @@ fn say_total(vectors: usize) -> bool {
 }
 
 // The vector total, and then a line for each vector, up to the first that cannot be written.
-fn say_vectors(file: &[u8], heads: &[u16], links: &[u16], counts: &[u16]) -> bool
-    requires { ⌜ Ready (now file) (now heads) (now links) (now counts) ⌝ }
+fn say_vectors(file: &[u8], table: &mut [u16; TABLE]) -> bool
+    requires { ⌜ Ready (now file) (now table) ⌝ }
 {
     let cells = read_sizes(file).cells;
-    let plan = plan_of(file, heads, links, counts);
+    let plan = plan_of(file, table);
     let vectors = total(plan);
     if !say_total(vectors) {
         return false;
     }
     for t in 0..vectors {
-        if !say_vector(file, heads, links, counts, cells, plan, t) {
+        if !say_vector(file, table, cells, plan, t) {
             return false;
         }
     }
@@ -166,19 +158,12 @@ fn say_refusal(refusal: Refusal) -> bool {
 }
 
 // Checks the board once, and lists it. Answers whether every line could be written.
-fn list(
-    file: &[u8],
-    heads: &mut [u16],
-    links: &mut [u16],
-    net_heads: &mut [u16],
-    net_links: &mut [u16],
-    counts: &mut [u16],
-) -> bool
-    requires { ⌜ Blank (now heads) (now links) (now «net_heads») (now «net_links») (now counts) ⌝ }
+fn list(file: &[u8], table: &mut [u16; TABLE]) -> bool
+    requires { ⌜ Blank (now table) ⌝ }
 {
-    let admitted = admit(file, heads, links, net_heads, net_links, counts);
+    let admitted = admit(file, table);
     match admitted {
-        Verdict::Accepted => say_vectors(file, heads, links, counts),
+        Verdict::Accepted => say_vectors(file, table),
         Verdict::Refused(refusal) => say_refusal(refusal),
     }
 }
@@ -223,25 +208,13 @@ fn read_input(file: &mut [u8]) -> Input
 
 fn main() {
     let mut file = [0u8; ROOM];
-    let mut heads = [0u16; MOST_CELLS];
-    let mut links = [0u16; MOST_CELLS];
-    let mut net_heads = [0u16; MOST_NETS];
-    let mut net_links = [0u16; MOST_CELLS];
-    let mut counts = [0u16; MOST_NETS];
+    let mut table = [0u16; TABLE];
     let input = read_input(&mut file);
     let Input::Bytes(n) = input else {
         io::write_all(STDERR_FILENO, b"listing: cannot read\n");
         return;
     };
-    let listed = list(
-        &file[0..n],
-        &mut heads,
-        &mut links,
-        &mut net_heads,
-        &mut net_links,
-        &mut counts,
-    );
-    if !listed {
+    if !list(&file[0..n], &mut table) {
         io::write_all(STDERR_FILENO, b"listing: cannot write\n");
     }
 }

@@ -105,12 +105,6 @@ pub board-accepted : (file : List ℕ) → judge (countChecks file) ≡ Accepted
 unfolding countChecks
 board-accepted file e = accepted (boardChecks file) (append-pass (boardChecks file) _ (all-pass (countChecks file) e) .0)
 
--- what admit's answer says once it accepts
-pub admitted : (file heads links net-heads net-links counts : List ℕ) (v : Verdict) → v ≡ judge (countChecks file) → v ≡ Accepted → (judge (countChecks file) ≡ Accepted → Filled file heads links net-heads net-links counts) → Admitted file heads links counts
-admitted file heads links net-heads net-links counts v e told filled =
-    let ok = sym e ∙ told in
-    record { counted = ok; ready = record { accepted = board-accepted file ok; by-control = filled ok .by-control; counted = filled ok .counted } }
-
 pub check-is : (b : Board) (p : Plan) → PlanOf b p → judge (once 12 (ltb mostVectors (length (stepsOf (basesFor p)))) ∷ []) ≡ judge (once 12 (ltb mostVectors (totalOf b)) ∷ [])
 check-is b p h = ap (λ (x : ℕ). judge (once 12 (ltb mostVectors x) ∷ [])) (total-is b p h)
 

@@ -17,7 +17,7 @@ pub record PlanOf (b : Board) (p : Plan) : Type 0 where
   pub groups-are : p .groups ≡ groupsOf b
   pub limit-are : p .limit ≡ b .limit
 
--- checks 1 to 12 accept the file, and the tables are its own
-pub record Admitted (file heads links counts : List ℕ) : Type 0 where
+-- checks 1 to 12 accept the file, and the table is its own
+pub record Admitted (file t : List ℕ) : Type 0 where
   pub counted : judge (countChecks file) ≡ Accepted
-  pub ready : Ready file heads links counts
+  pub ready : Ready file t

@@ -7,15 +7,16 @@ ghost use Rattle.rules.specs.File.{boardOf};
 ghost use Rattle.rules.specs.Refusals.{judge, once, mostVectors, countChecks};
 ghost use Rattle.rules.specs.Vectors.{stepsOf};
 ghost use Rattle.rules.specs.declared.Verdict.the-variants.{Accepted};
-ghost use Rattle.chains.specs.Filling.{Blank, Filled};
+ghost use Rattle.chains.specs.Table.{Blank};
 ghost use Rattle.select.specs.Turns.{Ready};
-ghost use Rattle.plan.specs.Planning.{PlanOf};
+ghost use Rattle.plan.specs.Planning.{PlanOf, Admitted};
 ghost use Rattle.plan.specs.Plans.{basesFor, Small};
 use crate::codes::width;
 use crate::steps::Plan;
 use crate::steps::total;
 use blocks::read_sizes;
 use board::verdict::examine;
+use chains::TABLE;
 use rules::Verdict;
 use select::degrees::groups_of;
 
@@ -23,12 +24,12 @@ use select::degrees::groups_of;
 const MOST_VECTORS: usize = 4096;
 
 // The plan of an accepted board.
-pub fn plan_of(file: &[u8], heads: &[u16], links: &[u16], counts: &[u16]) -> Plan
-    requires { ⌜ Ready (now file) (now heads) (now links) (now counts) ⌝ }
+pub fn plan_of(file: &[u8], table: &[u16; TABLE]) -> Plan
+    requires { ⌜ Ready (now file) (now table) ⌝ }
     ensures { λ r. ⌜ PlanOf (boardOf (now (file .entry))) r ⌝ }
 {
     let sizes = read_sizes(file);
-    let groups = groups_of(file, heads, links, counts, sizes.nets);
+    let groups = groups_of(file, table, sizes.nets);
     let wide = width(sizes.nets);
     Plan {
         nets: sizes.nets,
@@ -46,23 +47,16 @@ fn count_verdict(plan: Plan) -> Verdict
     rules::once(12, MOST_VECTORS < total(plan))
 }
 
-// Refusals 1 to 12, with the tables of an accepted board left in the lent ones, which hold nothing yet.
-pub fn admit(
-    file: &[u8],
-    heads: &mut [u16],
-    links: &mut [u16],
-    net_heads: &mut [u16],
-    net_links: &mut [u16],
-    counts: &mut [u16],
-) -> Verdict
-    requires { ⌜ Blank (now heads) (now links) (now «net_heads») (now «net_links») (now counts) ⌝ }
+// Refusals 1 to 12, with the table of an accepted board left in the lent one, which holds nothing yet.
+pub fn admit(file: &[u8], table: &mut [u16; TABLE]) -> Verdict
+    requires { ⌜ Blank (now table) ⌝ }
     ensures { λ r. ⌜ r ≡ judge (countChecks (now (file .entry))) ⌝ }
-    ensures { λ r. ⌜ (judge (countChecks (now (file .entry))) ≡ Accepted → Filled (now (file .entry)) (now (heads .exit)) (now (links .exit)) (now («net_heads» .exit)) (now («net_links» .exit)) (now (counts .exit))) ⌝ }
+    ensures { λ r. ⌜ (judge (countChecks (now (file .entry))) ≡ Accepted → Admitted (now (file .entry)) (now (table .exit))) ⌝ }
 {
-    let board = examine(file, heads, links, net_heads, net_links, counts);
+    let board = examine(file, table);
     let Verdict::Accepted = board else {
         return board;
     };
-    let plan = plan_of(file, heads, links, counts);
+    let plan = plan_of(file, table);
     count_verdict(plan)
 }

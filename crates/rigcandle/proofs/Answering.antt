@@ -1,6 +1,6 @@
 -- An answer by its verdict: a refusal's bits and the buffer as it was, or what the question returns and writes.
 use Prim.Native.Nat.{ℕ, _*_}
-use mathlib.Core.Path.{_≡_, sym, _∙_, ap}
+use mathlib.Core.Path.{_≡_, sym, _∙_, ap, subst}
 use mathlib.Core.Bool.{Bool, false, not}
 use mathlib.Core.List.{List, [], _∷_}
 use native.Mathlib.Omega.{arith}
@@ -17,6 +17,10 @@ use Rattle.rules.specs.Answers.{Field, over, pack, packed, field, countAnswer, 
 use Rattle.rules.specs.declared.Refusal.{Refusal}
 use Rattle.rules.specs.declared.Verdict.{Verdict}
 use Rattle.rules.specs.declared.Verdict.the-variants.{Accepted, Refused}
+use Rattle.plan.specs.declared.steps.Plan.{Plan}
+use Rattle.plan.specs.Planning.{PlanOf}
+use Rattle.rigcandle.specs.Asking.{PlannedAs}
+use Rattle.rigcandle.specs.declared.questions.Planned.the-variants as planned
 use Rattle.rules.proofs.Verdicts.{Then, then-append, all-pass}
 
 -- what a refusal would have returned does not count
@@ -91,3 +95,30 @@ number-is number x y v e h = e ∙ ap (λ (n : ℕ). judge (once 13 (leb n numbe
 
 pub capture-is : (capture : List ℕ) (x y : ℕ) (v : Verdict) → v ≡ judge (once 14 (not (eqb (length capture) x)) ∷ []) → x ≡ y → v ≡ judge (once 14 (not (eqb (length capture) y)) ∷ [])
 capture-is capture x y v e h = e ∙ ap (λ (n : ℕ). judge (once 14 (not (eqb (length capture) n)) ∷ [])) h
+
+-- what make_plan answers
+pub made-as : (file : List ℕ) (plan : Plan) → judge (countChecks file) ≡ Accepted → PlanOf (boardOf file) plan → PlannedAs file (planned.Made plan)
+made-as file plan ok h =
+    record {
+      made = λ p e. (ok, subst (PlanOf (boardOf file)) (same plan p e) h);
+      refused = λ r e. absurd (apart plan r e);
+    }
+  where
+    same : (a b : Plan) → planned.Made a ≡ planned.Made b → a ≡ b
+    same a b e = cc
+
+    apart : (a : Plan) (r : Refusal) → planned.Made a ≡ planned.Refused r → ⊥
+    apart a r e = let z : _≡_ {A = ℕ} 0 1 = cc in omega arith
+
+pub refused-as : (file : List ℕ) (refusal : Refusal) → judge (countChecks file) ≡ Refused refusal → PlannedAs file (planned.Refused refusal)
+refused-as file refusal e =
+    record {
+      made = λ p q. absurd (apart p refusal (sym q));
+      refused = λ r q. e ∙ ap Refused (same refusal r q);
+    }
+  where
+    same : (a b : Refusal) → planned.Refused a ≡ planned.Refused b → a ≡ b
+    same a b e = cc
+
+    apart : (a : Plan) (r : Refusal) → planned.Made a ≡ planned.Refused r → ⊥
+    apart a r e = let z : _≡_ {A = ℕ} 0 1 = cc in omega arith

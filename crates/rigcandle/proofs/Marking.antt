@@ -6,7 +6,7 @@ use mathlib.Core.List.{List, [], _∷_}
 use native.Mathlib.Omega.{arith}
 use borrow.Author.Tests.{eqb-true}
 use lib.Dec.{eqb}
-use lib.ListN.{length, getD}
+use lib.ListN.{replicate, length-replicate, length, getD}
 use Rattle.rules.specs.Answers.{over, pack, field, marksAnswer, marksOutcome}
 use Rattle.rules.specs.Basics.{all, bit, ceil, rowBytes, table}
 use Rattle.rules.specs.File.{Board, boardOf, byteAt, cellsOf, netsOf}
@@ -19,7 +19,7 @@ use Rattle.rules.proofs.Codes.{width-least}
 use Rattle.rules.proofs.Digits.{length-table}
 use Rattle.rules.proofs.Shape.{laid, shaped}
 use Rattle.rules.proofs.Tests.{passes-not}
-use Rattle.chains.specs.Filling.{Zero}
+use Rattle.words.proofs.Members.{zero-at}
 use Rattle.plan.specs.declared.steps.Plan.{Plan}
 use Rattle.plan.specs.Plans.{basesFor}
 use Rattle.plan.specs.Planning.{PlanOf}
@@ -63,9 +63,13 @@ pub whole-capture : (long x : ℕ) → not (eqb long x) ≡ false → long ≡ x
 whole-capture long x h = eqb-true long x (passes-not _ h)
 
 -- a blank table has no entry yet
-pub no-entries : (cells : ℕ) (table : List ℕ) → cells ≤ mostCells → Zero mostCells table → Entries 0 (8 * rowBytes cells) table
+pub no-entries : (cells : ℕ) → cells ≤ mostCells → Entries 0 (8 * rowBytes cells) (replicate mostCells 0)
 unfolding rowBytes ceil
-no-entries cells table l z = record { long = (let m = z .long in omega arith); low = λ c q. (let e = z .zero-at c in omega arith) }
+no-entries cells l =
+    record {
+      long = (let m = length-replicate {A = ℕ} mostCells 0 in omega arith);
+      low = λ c q. (let e = zero-at mostCells c in omega arith);
+    }
 
 -- the readings as the marks are made of them
 pub readings-of : (file : List ℕ) (p : Plan) (capture before after : List ℕ) (cells : ℕ) → judge (boardChecks file) ≡ Accepted → PlanOf (boardOf file) p → cells ≡ cellsOf file → Entries 0 (8 * rowBytes cells) before → Read p capture before cells after → Readings file after

@@ -1,8 +1,7 @@
 // The four questions for C. Each walks from the file's bytes to its answer once, and keeps nothing.
 ghost use mathlib.Core.Path.{_≡_};
 ghost use Rattle.rules.specs.Answers.{countAnswer, countOutcome, groupsAnswer, groupsOutcome, vectorAnswer, vectorOutcome, marksAnswer, marksOutcome};
-use blocks::MOST_CELLS;
-use blocks::MOST_NETS;
+use chains::TABLE;
 
 mod packing;
 mod questions;
@@ -12,19 +11,7 @@ mod questions;
 pub extern "C" fn count(file: &[u8]) -> u64
     ensures { λ r. ⌜ r ≡ countOutcome (countAnswer (now (file .entry))) .bits ⌝ }
 {
-    let mut heads = [0u16; MOST_CELLS];
-    let mut links = [0u16; MOST_CELLS];
-    let mut net_heads = [0u16; MOST_NETS];
-    let mut net_links = [0u16; MOST_CELLS];
-    let mut counts = [0u16; MOST_NETS];
-    questions::ask_count(
-        file,
-        &mut heads,
-        &mut links,
-        &mut net_heads,
-        &mut net_links,
-        &mut counts,
-    )
+    questions::ask_count(file)
 }
 
 // The control cells that are on in each group: a row for each.
@@ -33,20 +20,8 @@ pub extern "C" fn groups(file: &[u8], out: &mut [u8]) -> u64
     ensures { λ r. ⌜ r ≡ groupsOutcome (groupsAnswer (now (file .entry)) (now (out .entry))) .bits ⌝ }
     ensures { λ r. ⌜ now (out .exit) ≡ groupsOutcome (groupsAnswer (now (file .entry)) (now (out .entry))) .buffer ⌝ }
 {
-    let mut heads = [0u16; MOST_CELLS];
-    let mut links = [0u16; MOST_CELLS];
-    let mut net_heads = [0u16; MOST_NETS];
-    let mut net_links = [0u16; MOST_CELLS];
-    let mut counts = [0u16; MOST_NETS];
-    questions::ask_groups(
-        file,
-        out,
-        &mut heads,
-        &mut links,
-        &mut net_heads,
-        &mut net_links,
-        &mut counts,
-    )
+    let mut table = [0u16; TABLE];
+    questions::ask_groups(file, out, &mut table)
 }
 
 // One vector: its group, and its row.
@@ -55,21 +30,8 @@ pub extern "C" fn vector(file: &[u8], number: u64, out: &mut [u8]) -> u64
     ensures { λ r. ⌜ r ≡ vectorOutcome (vectorAnswer (now (file .entry)) number (now (out .entry))) .bits ⌝ }
     ensures { λ r. ⌜ now (out .exit) ≡ vectorOutcome (vectorAnswer (now (file .entry)) number (now (out .entry))) .buffer ⌝ }
 {
-    let mut heads = [0u16; MOST_CELLS];
-    let mut links = [0u16; MOST_CELLS];
-    let mut net_heads = [0u16; MOST_NETS];
-    let mut net_links = [0u16; MOST_CELLS];
-    let mut counts = [0u16; MOST_NETS];
-    questions::ask_vector(
-        file,
-        number,
-        out,
-        &mut heads,
-        &mut links,
-        &mut net_heads,
-        &mut net_links,
-        &mut counts,
-    )
+    let mut table = [0u16; TABLE];
+    questions::ask_vector(file, number, out, &mut table)
 }
 
 // What a capture says of each net: a mark byte for each, and how many there are of which kind.
@@ -78,21 +40,5 @@ pub extern "C" fn marks(file: &[u8], capture: &[u8], out: &mut [u8]) -> u64
     ensures { λ r. ⌜ r ≡ marksOutcome (marksAnswer (now (file .entry)) (now (capture .entry)) (now (out .entry))) .bits ⌝ }
     ensures { λ r. ⌜ now (out .exit) ≡ marksOutcome (marksAnswer (now (file .entry)) (now (capture .entry)) (now (out .entry))) .buffer ⌝ }
 {
-    let mut heads = [0u16; MOST_CELLS];
-    let mut links = [0u16; MOST_CELLS];
-    let mut net_heads = [0u16; MOST_NETS];
-    let mut net_links = [0u16; MOST_CELLS];
-    let mut counts = [0u16; MOST_NETS];
-    let mut table = [0u16; MOST_CELLS];
-    questions::ask_marks(
-        file,
-        capture,
-        out,
-        &mut heads,
-        &mut links,
-        &mut net_heads,
-        &mut net_links,
-        &mut counts,
-        &mut table,
-    )
+    questions::ask_marks(file, capture, out)
 }

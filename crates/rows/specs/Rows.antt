@@ -25,16 +25,16 @@ pub record Room (buffer : List ℕ) (at cells : ℕ) : Type 0 where
 pub record Cells (cells : ℕ) (f : ℕ → Bool) : Type 0 where
   pub none : (c : ℕ) → cells ≤ c → f c ≡ false
 
--- an accepted board with its tables, and room for its groups' rows
-pub record GroupsRoom (file heads links counts : List ℕ) (cells groups : ℕ) (buffer : List ℕ) : Type 0 where
-  pub ready : Ready file heads links counts
+-- an accepted board with its table, and room for its groups' rows
+pub record GroupsRoom (file t : List ℕ) (cells groups : ℕ) (buffer : List ℕ) : Type 0 where
+  pub ready : Ready file t
   pub cells-are : cells ≡ cellsOf file
   pub few : groups ≤ 65535
   pub long : groups * rowBytes cells ≤ length buffer
 
--- an accepted board with its tables and its plan, one of its vectors, and room for its row
-pub record VectorRoom (file heads links counts : List ℕ) (cells : ℕ) (plan : Plan) (t : ℕ) (buffer : List ℕ) : Type 0 where
-  pub ready : Ready file heads links counts
+-- an accepted board with its table and its plan, one of its vectors, and room for its row
+pub record VectorRoom (file table : List ℕ) (cells : ℕ) (plan : Plan) (t : ℕ) (buffer : List ℕ) : Type 0 where
+  pub ready : Ready file table
   pub cells-are : cells ≡ cellsOf file
   pub planned : PlanOf (boardOf file) plan
   pub below : t < totalOf (boardOf file)

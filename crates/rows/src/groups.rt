@@ -7,25 +7,22 @@ ghost use Rattle.select.specs.Highest.{Order};
 ghost use Rattle.rows.specs.Rows.{GroupsRoom};
 use crate::bytes::row_bytes;
 use crate::bytes::write_row;
+use chains::TABLE;
 use select::groups::selected;
-use select::order::MOST_HIGHEST;
 use select::order::fill_order;
 use words::CellSet;
 
 // The rows of the groups, by the highest drivers of the control cells.
 fn write_rows(
     file: &[u8],
-    heads: &[u16],
-    links: &[u16],
-    counts: &[u16],
-    order: &[u16],
+    table: &[u16; TABLE],
     found: usize,
     cells: usize,
     groups: usize,
     out: &mut [u8],
 )
-    requires { ⌜ GroupsRoom (now file) (now heads) (now links) (now counts) cells groups (now out) ⌝ }
-    requires { ⌜ Order (now file) (now order) found ⌝ }
+    requires { ⌜ GroupsRoom (now file) (now table) cells groups (now out) ⌝ }
+    requires { ⌜ Order (now file) (now table) found ⌝ }
     ensures { λ r. ⌜ now (out .exit) ≡ over (groupRows (boardOf (now (file .entry))) groups) (now (out .entry)) ⌝ }
 {
     let bytes = row_bytes(cells);
@@ -34,7 +31,7 @@ fn write_rows(
     let mut g = 0;
     while g < groups {
         g += 1;
-        let on = selected(file, heads, links, counts, order, found, g, earlier);
+        let on = selected(file, table, found, g, earlier);
         write_row(out, at, cells, on);
         earlier = on.union(earlier);
         at += bytes;
@@ -44,27 +41,14 @@ fn write_rows(
 // "G rows of R bytes": the control cells that are on in each of the groups.
 pub fn write_groups(
     file: &[u8],
-    heads: &[u16],
-    links: &[u16],
-    counts: &[u16],
+    table: &mut [u16; TABLE],
     cells: usize,
     groups: usize,
     out: &mut [u8],
 )
-    requires { ⌜ GroupsRoom (now file) (now heads) (now links) (now counts) cells groups (now out) ⌝ }
+    requires { ⌜ GroupsRoom (now file) (now table) cells groups (now out) ⌝ }
     ensures { λ r. ⌜ now (out .exit) ≡ over (groupRows (boardOf (now (file .entry))) groups) (now (out .entry)) ⌝ }
 {
-    let mut order = [0u16; MOST_HIGHEST];
-    let found = fill_order(file, heads, cells, &mut order);
-    write_rows(
-        file,
-        heads,
-        links,
-        counts,
-        &order,
-        found,
-        cells,
-        groups,
-        out,
-    );
+    let found = fill_order(file, table, cells);
+    write_rows(file, table, found, cells, groups, out);
 }

@@ -10,10 +10,12 @@ ghost use Rattle.rules.specs.Vectors.{vectorAt, vectorRow};
 ghost use lib.ListN.{length};
 ghost use Rattle.words.specs.Sets.{netWords, cellWords, member, plusIf, upTo};
 ghost use Rattle.cells.specs.Whole.{Whole};
+ghost use Rattle.select.specs.Turns.{Ready};
 ghost use Rattle.rows.specs.Bits.{bitOf, bitAt, outNet};
 ghost use Rattle.rows.specs.Rows.{VectorRoom};
 use crate::bytes::write_row;
 use cells::cell_at;
+use chains::TABLE;
 use plan::steps::Plan;
 use plan::steps::step_at;
 use plan::values::group_of;
@@ -76,24 +78,23 @@ fn row_cells(file: &[u8], cells: usize, on: CellSet, nets: NetSet) -> CellSet
     CellSet { words }
 }
 
-// The row of vector t, and its group.
+// The row of vector t, and its group; the table can be used again.
 pub fn write_vector(
     file: &[u8],
-    heads: &[u16],
-    links: &[u16],
-    counts: &[u16],
+    table: &mut [u16; TABLE],
     cells: usize,
     plan: Plan,
     t: usize,
     out: &mut [u8],
 ) -> usize
-    requires { ⌜ VectorRoom (now file) (now heads) (now links) (now counts) cells plan t (now out) ⌝ }
+    requires { ⌜ VectorRoom (now file) (now table) cells plan t (now out) ⌝ }
     ensures { λ r. ⌜ r ≡ vectorAt (boardOf (now (file .entry))) t .group ⌝ }
     ensures { λ r. ⌜ now (out .exit) ≡ over (vectorRow (boardOf (now (file .entry))) (vectorAt (boardOf (now (file .entry))) t)) (now (out .entry)) ⌝ }
+    ensures { λ r. ⌜ Ready (now (file .entry)) (now (table .exit)) ⌝ }
 {
     let step = step_at(plan, t);
     let turn = group_of(plan, step);
-    let on = group(file, heads, links, counts, cells, turn);
+    let on = group(file, table, cells, turn);
     let nets = values(plan, step);
     let row = row_cells(file, cells, on, nets);
     write_row(out, 0, cells, row);

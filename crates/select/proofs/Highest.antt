@@ -10,7 +10,6 @@ use native.Mathlib.Numerals.{add-one}
 use native.Mathlib.Omega.{arith}
 use borrow.Author.Tests.{eqb-true, eqb-false, eq-eqb}
 use lib.Dec.{eqb}
-use lib.ListN.{getD}
 use Rattle.rules.specs.File.{Board, boardOf, cellsOf, netOf}
 use Rattle.rules.specs.Drivers.{driverAt, controlled, controlFor, meets}
 use Rattle.rules.specs.Groups.{marked, turn, pass}
@@ -20,14 +19,15 @@ use Rattle.rules.proofs.Tests.{left, right, both, or-left, or-right, below-suc}
 use Rattle.rules.proofs.Passes.{open-at}
 use Rattle.rules.proofs.Selection.{Sound, degrees-equal}
 use Rattle.rules.specs.declared.Driver.the-variants.{Of, Nothing}
-use Rattle.chains.specs.Chains.{ControlCell, last, keyed, keysOf}
+use Rattle.chains.specs.Table.{ControlCell, headIn}
+use Rattle.chains.specs.Chains.{last, keyed, Chains}
 use Rattle.chains.proofs.Chaining.{last-le, last-member, keyed-control}
 use Rattle.rules.proofs.Driving.{driver-own}
 use Rattle.rules.proofs.DriverLaws.{is-driver, no-driver, control-below}
-use Rattle.chains.proofs.Walks.{cell-in}
+use Rattle.chains.proofs.Walks.{cell-fits}
 use Rattle.select.specs.declared.turns.Pass.{Pass}
-use Rattle.select.specs.Turns.{wantedAt, wantedIn, Ready}
-use Rattle.select.specs.Highest.{highest, highestDrivers, passOver, Heads}
+use Rattle.select.specs.Turns.{wantedAt, wantedIn}
+use Rattle.select.specs.Highest.{highest, highestDrivers, passOver}
 
 -- the last number that passes is none below another that does
 last-above : (n : ℕ) (p : ℕ → Bool) (c : ℕ) → c < n → p c ≡ true → c < last n p
@@ -61,7 +61,8 @@ driver-above b c l x h = go (last (b .size) p) refl
     go zero e = absurd (omega (arith, above))
     go (suc d) e =
         let key = sym (keyed-control b (controlFor b c) d) ∙ last-member (b .size) p d e in
-        (d, ⊎-elim (λ (q : c ≡ d). absurd (other (e ∙ ap suc (sym q)))) (λ q. q) (below-suc (rw e at above)), omega (arith, last-le (b .size) p), left (controlled b d) _ key, eqb-true _ _ (right (controlled b d) key))
+        let higher : c < d = ⊎-elim (λ (q : c ≡ d). absurd (other (e ∙ ap suc (sym q)))) (λ q. q) (below-suc (rw e at above)) in
+        (d, higher, omega (arith, last-le (b .size) p), left (controlled b d) _ key, eqb-true _ _ (right (controlled b d) key))
 
 module _ (b : Board) (s : Sound b) (which : Pass) (g : ℕ) (allowed : ℕ → Bool) where
   -- where the pass may turn a control cell on
@@ -70,6 +71,13 @@ module _ (b : Board) (s : Sound b) (which : Pass) (g : ℕ) (allowed : ℕ → B
 
   abbrev after : ℕ → List ℕ → List ℕ
   after c on = turn b (wantedIn b which g) allowed c on
+
+  -- the pass over the positions of a list, and over those below c
+  abbrev over : List ℕ → List ℕ → List ℕ
+  over cs on = passOver b (wantedIn b which g) allowed cs on
+
+  abbrev whole : ℕ → List ℕ → List ℕ
+  whole c on = pass b (wantedIn b which g) allowed c on
 
   -- each control cell that the pass could turn on at c or above is marked
   abbrev pub Settled : ℕ → List ℕ → Type 0
@@ -82,7 +90,9 @@ module _ (b : Board) (s : Sound b) (which : Pass) (g : ℕ) (allowed : ℕ → B
       let cw = left (controlled b c && wantedIn b which g (netOf (b .cell c))) _ o in
       let is = left (controlled b c) _ cw in
       let own = s .checked .own-control c l is in
-      let same = degrees-equal b s (controlFor b c) (netOf (b .cell d)) (netOf (b .cell c)) (record { on-board = own .0; is-control = own .1 }) (s .checked .own-net d m (or-left _ x)) (s .checked .own-net c l (or-left _ is)) (rw e at (driver-own b d m x)) (driver-own b c l is) in
+      let d-net = s .checked .own-net d m (or-left _ x) in
+      let c-net = s .checked .own-net c l (or-left _ is) in
+      let same = degrees-equal b s (controlFor b c) _ _ (record { on-board = own .0; is-control = own .1 }) d-net c-net (rw e at (driver-own b d m x)) (driver-own b c l is) in
       both (both x (ap (wantedAt which g) same ∙ right (controlled b c) cw)) (ap allowed e ∙ right (controlled b c && wantedIn b which g (netOf (b .cell c))) o)
 
   -- a position leaves marked what is marked, and its own control cell, where open
@@ -122,32 +132,28 @@ module _ (b : Board) (s : Sound b) (which : Pass) (g : ℕ) (allowed : ℕ → B
           rw (ap (marked b on) (sym (d .4)) ∙ m, and-false (opens c))
 
   -- so the pass over the highest drivers is the pass
-  pub pass-highest : (c : ℕ) (on : List ℕ) → c ≤ b .size → Settled c on → passOver b (wantedIn b which g) allowed (highestDrivers b c) on ≡ pass b (wantedIn b which g) allowed c on
+  pub pass-highest : (c : ℕ) (on : List ℕ) → c ≤ b .size → Settled c on → over (highestDrivers b c) on ≡ whole c on
   unfolding pass passOver highestDrivers
   pass-highest zero on l h = refl
   pass-highest (suc c) on l h = go (highest b c) refl (pass-highest c (after c on) (omega arith) (settled-next c on h))
     where
-      go : (a : Bool) → highest b c ≡ a → passOver b (wantedIn b which g) allowed (highestDrivers b c) (after c on) ≡ pass b (wantedIn b which g) allowed c (after c on) → passOver b (wantedIn b which g) allowed (cond (highest b c) (c ∷ highestDrivers b c) (highestDrivers b c)) on ≡ pass b (wantedIn b which g) allowed c (after c on)
+      go : (a : Bool) → highest b c ≡ a → over (highestDrivers b c) (after c on) ≡ whole c (after c on) → over (cond (highest b c) (c ∷ highestDrivers b c) (highestDrivers b c)) on ≡ whole c (after c on)
       go true e r = rw e r
-      go false e r = rw e (ap (passOver b (wantedIn b which g) allowed (highestDrivers b c)) (turn-idle c on l e h) ∙ r)
+      go false e r = rw e (ap (over (highestDrivers b c)) (turn-idle c on l e h) ∙ r)
 
   -- from the highest position on nothing has to be settled
   pub settled-none : (on : List ℕ) → Settled (b .size) on
   settled-none on d l m o = absurd (omega arith)
 
--- what the heads say of a position
-pub heads-of : (file heads links counts : List ℕ) → Ready file heads links counts → Heads file heads
-unfolding keysOf
-heads-of file heads links counts ready =
-    let ch = ready .by-control in
-    record { checked = ch .checked; long = ch .keys; head = λ k l. ch .linked .head k (cell-in file heads links k ch l) }
-
+-- what a position is tells whether it is a highest driver, and for a driver its control cell's head
 pub highest-none : (b : Board) (c : ℕ) → driverAt b c ≡ Nothing → false ≡ highest b c
 unfolding highest
 highest-none b c e = rw (no-driver b c e)
 
-pub highest-told : (file heads : List ℕ) (h : Heads file heads) (c : ℕ) (l : c < cellsOf file) (k : Position) (n : Net) (e : driverAt (boardOf file) c ≡ Of k n) (held : ℕ) → held ≡ getD heads (k .0) 0 → eqb held (c + 1) ≡ highest (boardOf file) c
-unfolding highest boardOf
-highest-told file heads h c l k n e held w =
-    let d = is-driver (boardOf file) c k n e in
-    rw (d .0, d .1, w, h .head (k .0) (control-below file (h .checked) c l k n e), add-one c)
+module _ (file t : List ℕ) (chains : Chains file ControlCell t) (c : ℕ) (l : c < cellsOf file) (k : Position) (n : Net) (e : driverAt (boardOf file) c ≡ Of k n) where
+  pub highest-told : (held : ℕ) → held ≡ headIn ControlCell t (k .0) → eqb held (c + 1) ≡ highest (boardOf file) c
+  unfolding highest boardOf
+  highest-told held w =
+      let d = is-driver (boardOf file) c k n e in
+      let own = cell-fits file (chains .checked) (k .0) (control-below file (chains .checked) c l k n e) in
+      rw (d .0, d .1, w, chains .linked .head (k .0) own, add-one c)

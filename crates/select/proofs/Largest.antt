@@ -4,32 +4,31 @@ use mathlib.Core.Path.{_≡_, sym, _∙_, ap}
 use mathlib.Core.List.{List}
 use native.Mathlib.Numerals.{add-one}
 use native.Mathlib.Omega.{arith}
-use lib.ListN.{length, getD}
 use Rattle.rules.specs.Basics.{largest}
 use Rattle.rules.specs.File.{boardOf, netsOf}
 use Rattle.rules.specs.Drivers.{drivers, degree, groupsOf}
 use Rattle.rules.proofs.Degree.{degree-drivers}
 use Rattle.rules.proofs.Selection.{sound}
+use Rattle.chains.specs.Table.{countIn}
+use Rattle.chains.proofs.Walks.{net-fits}
 use Rattle.select.specs.Turns.{Ready}
 
 -- the largest degree of the nets below n, but at least 1
 unfoldable pub so-far : List ℕ → ℕ → ℕ
 so-far file n = max 1 (largest n (degree (boardOf file)))
 
-module _ (file heads links counts : List ℕ) (ready : Ready file heads links counts) where
-  pub count-in : (n : ℕ) → n < netsOf file → n < length counts
-  count-in n l = let r = ready .counted .nets in omega arith
-
-  pub degree-held : (n : ℕ) → n < netsOf file → getD counts n 0 ≡ degree (boardOf file) n
+module _ (file t : List ℕ) (ready : Ready file t) where
+  pub degree-held : (n : ℕ) → n < netsOf file → countIn t n ≡ degree (boardOf file) n
   unfolding drivers boardOf
   degree-held n l =
-      ready .counted .counted n (count-in n l) ∙ sym (degree-drivers (boardOf file) (sound file (ready .accepted) .checked) n l)
+      ready .counted .counted n (net-fits file (ready .counted .checked) n l)
+      ∙ sym (degree-drivers (boardOf file) (sound file (ready .accepted) .checked) n l)
 
   pub so-far-none : 1 ≡ so-far file 0
   unfolding largest so-far
   so-far-none = omega arith
 
-  pub so-far-more : (n most held next : ℕ) → n < netsOf file → most ≡ so-far file n → held ≡ getD counts n 0 → next ≡ max most held → next ≡ so-far file (n + 1)
+  pub so-far-more : (n most held next : ℕ) → n < netsOf file → most ≡ so-far file n → held ≡ countIn t n → next ≡ max most held → next ≡ so-far file (n + 1)
   unfolding largest so-far
   so-far-more n most held next l e h m =
       rw (add-one n) (m ∙ ap (λ (x : ℕ). max x held) e ∙ ap (λ (x : ℕ). max (so-far file n) x) (h ∙ degree-held n l) ∙ omega arith)

@@ -6,7 +6,6 @@ use mathlib.Core.List.{List, [], _∷_}
 use native.Mathlib.Numerals.{sub-one}
 use native.Mathlib.Omega.{arith}
 use lib.Dec.{eqb}
-use lib.ListN.{getD}
 use Rattle.rules.specs.Basics.{has}
 use Rattle.rules.specs.File.{Board, boardOf, cellsOf, netsOf, netOf}
 use Rattle.rules.specs.Drivers.{driverAt, controlled, drives}
@@ -18,6 +17,7 @@ use Rattle.rules.proofs.Passes.{has-append}
 use Rattle.words.specs.Sets.{netWords, member, nothing, either, plus, meetsIn}
 use Rattle.rules.specs.declared.Driver.the-variants.{Of, Nothing}
 use Rattle.rules.proofs.DriverLaws.{is-driver, no-driver, net-below}
+use Rattle.chains.specs.Table.{countIn}
 use Rattle.chains.proofs.Brought.{known-net}
 use Rattle.select.specs.declared.turns.Pass.{Pass}
 use Rattle.select.specs.declared.turns.Pass.the-variants.{First, Second}
@@ -85,12 +85,13 @@ module _ (b : Board) (wanted allowed : ℕ → Bool) (c : ℕ) (on : List ℕ) w
     unfolding joined
     turn-joins w a m = sym (turn-is ∙ rw (w, a, m) (cond-not (k .0 ∷ on) on (reached b on (k .0))))
 
--- what the tables and the sets say of a driver of an accepted board
-module _ (file heads links counts : List ℕ) (ready : Ready file heads links counts) (c : ℕ) (l : c < cellsOf file) (k : Position) (n : Net) (e : driverAt (boardOf file) c ≡ Of k n) where
-  pub wanted-told : (which : Pass) (g held : ℕ) (r a : Bool) → held ≡ getD counts (n .0) 0 → r ≡ wantedAt which g held → r ≡ a → wantedIn (boardOf file) which g (n .0) ≡ a
+-- what the table and the sets say of a driver of an accepted board
+module _ (file t : List ℕ) (ready : Ready file t) (c : ℕ) (l : c < cellsOf file) (k : Position) (n : Net) (e : driverAt (boardOf file) c ≡ Of k n) where
+  pub wanted-told : (which : Pass) (g held : ℕ) (r a : Bool) → held ≡ countIn t (n .0) → r ≡ wantedAt which g held → r ≡ a → wantedIn (boardOf file) which g (n .0) ≡ a
   unfolding wantedIn
-  wanted-told which g held r a h w t =
-      ap (wantedAt which g) (sym (h ∙ degree-held file heads links counts ready (n .0) (net-below file (ready .by-control .checked) c l k n e))) ∙ sym w ∙ t
+  wanted-told which g held r a h w is =
+      let own = degree-held file t ready (n .0) (net-below file (ready .by-control .checked) c l k n e) in
+      ap (wantedAt which g) (sym (h ∙ own)) ∙ sym w ∙ is
 
   -- its nets are below 256, so whether its control cell is marked is told by its nets
   known : (x : ℕ) → x < cellsOf file → controlled (boardOf file) x ≡ true → netOf (boardOf file .cell x) < netsOf file
@@ -101,9 +102,9 @@ module _ (file heads links counts : List ℕ) (ready : Ready file heads links co
 
   pub marked-told : (on : List ℕ) (f : ℕ → Bool) (r : Bool) → f ≡ coveredBy (boardOf file) on → r ≡ f (n .0) → r ≡ true → marked (boardOf file) on (k .0) ≡ true
   unfolding boardOf
-  marked-told on f r h w t =
+  marked-told on f r h w is =
       let d = is-driver (boardOf file) c k n e in
-      let m = covered-marked (boardOf file) few known on c l (d .0) (ap (coveredBy (boardOf file) on) (d .2) ∙ ap (λ (s : ℕ → Bool). s (n .0)) (sym h) ∙ sym w ∙ t) in
+      let m = covered-marked (boardOf file) few known on c l (d .0) (ap (coveredBy (boardOf file) on) (d .2) ∙ ap (λ (s : ℕ → Bool). s (n .0)) (sym h) ∙ sym w ∙ is) in
       ap (marked (boardOf file) on) (sym (d .1)) ∙ m
 
   pub reached-told : (on : List ℕ) → marked (boardOf file) on (k .0) ≡ reached (boardOf file) on (k .0)
@@ -117,12 +118,14 @@ pub holds-none : (b : Board) (state : Turned) → member (state .on .words) ≡ 
 unfolding has coveredBy
 holds-none b state e f = record { on-are = e; covered-are = f }
 
-pub selected-is : (b : Board) (g : ℕ) (used : List ℕ) (f : ℕ → Bool) (size : ℕ) (state : Turned) → f ≡ listed used → size ≡ b .size → Holds b (pass b (wantedIn b Second g) (allowedIn Second f) size (pass b (wantedIn b First g) (allowedIn First f) size [])) state → member (state .on .words) ≡ listed (selected b g used)
+-- the second pass after the first, where f are the earlier groups' control cells
+abbrev passes : Board → ℕ → (ℕ → Bool) → ℕ → List ℕ
+passes b g f size = pass b (wantedIn b Second g) (allowedIn Second f) size (pass b (wantedIn b First g) (allowedIn First f) size [])
+
+pub selected-is : (b : Board) (g : ℕ) (used : List ℕ) (f : ℕ → Bool) (size : ℕ) (state : Turned) → f ≡ listed used → size ≡ b .size → Holds b (passes b g f size) state → member (state .on .words) ≡ listed (selected b g used)
 unfolding selected firstPass secondPass wantedIn wantedAt allowedIn
 selected-is b g used f size state e s h =
-    h .on-are
-    ∙ ap (λ (x : ℕ). listed (pass b (wantedIn b Second g) (allowedIn Second f) x (pass b (wantedIn b First g) (allowedIn First f) x []))) s
-    ∙ ap (λ (t : ℕ → Bool). listed (pass b (wantedIn b Second g) (allowedIn Second t) (b .size) (pass b (wantedIn b First g) (allowedIn First t) (b .size) []))) e
+    h .on-are ∙ ap (λ (x : ℕ). listed (passes b g f x)) s ∙ ap (λ (t : ℕ → Bool). listed (passes b g t (b .size))) e
 
 -- group by group: no earlier group, one more of them, and the group itself
 pub earlier-none : (b : Board) (f : ℕ → Bool) → f ≡ nothing → f ≡ listed (earlier b 0)

@@ -4,16 +4,20 @@ use mathlib.Core.Path.{_≡_}
 use mathlib.Core.Bool.{Bool, true, false, cond, not, _||_}
 use mathlib.Core.List.{List, [], _∷_}
 use lib.Dec.{ltb, leb}
+use lib.ListN.{length}
 use Rattle.rules.specs.Basics.{has}
 use Rattle.rules.specs.File.{Board, cellsOf}
 use Rattle.rules.specs.Drivers.{degree, drives}
+use Rattle.rules.specs.Groups.{turn, pass}
 use Rattle.rules.specs.Refusals.{judge, boardChecks}
 use Rattle.rules.specs.declared.Verdict.the-variants.{Accepted}
 use Rattle.words.specs.Sets.{netWords, member, meetsIn}
-use Rattle.chains.specs.Chains.{ControlCell, Chains}
+use Rattle.chains.specs.Table.{ControlCell, tableSize}
+use Rattle.chains.specs.Chains.{Chains}
 use Rattle.chains.specs.Counts.{Counted}
 use Rattle.select.specs.declared.turns.Pass.{Pass}
 use Rattle.select.specs.declared.turns.Pass.the-variants.{First, Second}
+use Rattle.select.specs.declared.turns.Rule.{Rule}
 use Rattle.select.specs.declared.turns.Turned.{Turned}
 
 -- "whose net has degree g or more"; in the second pass "degree below g"
@@ -28,6 +32,13 @@ wantedIn b which g n = wantedAt which g (degree b n)
 unfoldable pub allowedIn : Pass → (ℕ → Bool) → ℕ → Bool
 allowedIn First used k = not (used k)
 allowedIn Second used k = true
+
+-- one position of the pass that goes by a rule, and that pass over the positions below c
+abbrev pub turnBy : Board → Rule → ℕ → List ℕ → List ℕ
+turnBy b rule c on = turn b (wantedIn b (rule .which) (rule .group)) (allowedIn (rule .which) (member (rule .earlier .words))) c on
+
+abbrev pub passBy : Board → Rule → ℕ → List ℕ → List ℕ
+passBy b rule c on = pass b (wantedIn b (rule .which) (rule .group)) (allowedIn (rule .which) (member (rule .earlier .words))) c on
 
 -- the nets of the control cells that are on
 unfoldable pub coveredBy : Board → List ℕ → ℕ → Bool
@@ -51,8 +62,13 @@ pub record Holds (b : Board) (on : List ℕ) (state : Turned) : Type 0 where
   pub on-are : member (state .on .words) ≡ listed on
   pub covered-are : member (state .covered .words) ≡ coveredBy b on
 
--- an accepted board with its chains by control cell and its counts of drivers
-pub record Ready (file heads links counts : List ℕ) : Type 0 where
+-- whatever list the sets `from` hold, the sets `to` hold what f makes of it
+abbrev pub Leads : Board → (List ℕ → List ℕ) → Turned → Turned → Type 0
+Leads b f from to = (on : List ℕ) → Holds b on from → Holds b (f on) to
+
+-- an accepted board, and a table with its chains by control cell and its numbers of drivers; what else the table holds is free
+pub record Ready (file t : List ℕ) : Type 0 where
   pub accepted : judge (boardChecks file) ≡ Accepted
-  pub by-control : Chains file ControlCell heads links
-  pub counted : Counted file (cellsOf file) counts
+  pub long : length t ≡ tableSize
+  pub by-control : Chains file ControlCell t
+  pub counted : Counted file (cellsOf file) t

@@ -4,7 +4,9 @@ ghost use Prim.Native.Nat.{max};
 ghost use Rattle.rules.specs.File.{boardOf, netsOf};
 ghost use Rattle.rules.specs.Drivers.{groupsOf};
 ghost use Rattle.select.specs.Turns.{Ready};
-use chains::held;
+use chains::TABLE;
+use chains::drivers_on;
+use rules::Net;
 
 // The larger of two numbers.
 fn larger(a: usize, b: usize) -> usize
@@ -17,15 +19,15 @@ fn larger(a: usize, b: usize) -> usize
 }
 
 // "G is the largest degree, but at least 1".
-pub fn groups_of(file: &[u8], heads: &[u16], links: &[u16], counts: &[u16], nets: usize) -> usize
-    requires { ⌜ Ready (now file) (now heads) (now links) (now counts) ⌝ }
+pub fn groups_of(file: &[u8], table: &[u16; TABLE], nets: usize) -> usize
+    requires { ⌜ Ready (now file) (now table) ⌝ }
     requires { ⌜ nets ≡ netsOf (now file) ⌝ }
     ensures { λ r. ⌜ r ≡ groupsOf (boardOf (now (file .entry))) ⌝ }
 {
     let mut most = 1;
     let mut n = 0;
     while n < nets {
-        most = larger(most, held(counts, n));
+        most = larger(most, drivers_on(table, Net(n as u16)));
         n += 1;
     }
     most

@@ -4,13 +4,14 @@ ghost use mathlib.Core.List.{List};
 ghost use Prim.Native.Nat.{ℕ, _<_, _*_};
 ghost use Rattle.rules.specs.File.{Board, boardOf, cellsOf};
 ghost use Rattle.rules.specs.Drivers.{drives};
-ghost use Rattle.rules.specs.Groups.{turn, pass};
 ghost use Rattle.words.specs.Sets.{cellWords, member};
-ghost use Rattle.select.specs.Turns.{wantedAt, allowedIn, wantedIn, joined, Ready, Holds};
+ghost use Rattle.select.specs.Turns.{wantedAt, allowedIn, turnBy, passBy, joined, Ready, Holds, Leads};
 ghost use Rattle.select.specs.Highest.{Order};
 use cells::driver_at;
-use chains::held;
+use chains::TABLE;
+use chains::drivers_on;
 use chains::sharing::nets_of;
+use chains::spare;
 use rules::Driver;
 use rules::Position;
 use words::CellSet;
@@ -22,6 +23,14 @@ pub enum Pass {
     Second,
 }
 
+// What a pass goes by: which of the two it is, of which group, and the control cells that were on in an
+// earlier group.
+pub struct Rule {
+    pub which: Pass,
+    pub group: usize,
+    pub earlier: CellSet,
+}
+
 // The control cells that are on so far, and their nets: a control cell is marked when one of its
 // nets is among these.
 pub struct Turned {
@@ -29,24 +38,28 @@ pub struct Turned {
     pub covered: NetSet,
 }
 
-// The pass wants nets of this degree.
-fn wanted(which: Pass, g: usize, degree: usize) -> bool
-    ensures { λ r. ⌜ r ≡ wantedAt which g degree ⌝ }
-{
-    match which {
-        Pass::First => g <= degree,
-        Pass::Second => degree < g,
+impl Rule {
+    // The pass wants nets of this degree.
+    fn wants(self, degree: usize) -> bool
+        ensures { λ r. ⌜ r ≡ wantedAt (self .which) (self .group) degree ⌝ }
+    {
+        let which = self.which;
+        match which {
+            Pass::First => self.group <= degree,
+            Pass::Second => degree < self.group,
+        }
     }
-}
 
-// The pass may turn control cell k on, as far as the earlier groups go.
-fn allowed(which: Pass, earlier: CellSet, k: Position) -> bool
-    requires { ⌜ k .0 < 64 * cellWords ⌝ }
-    ensures { λ r. ⌜ r ≡ allowedIn which (member (earlier .words)) (k .0) ⌝ }
-{
-    match which {
-        Pass::First => !earlier.has(k),
-        Pass::Second => true,
+    // The pass may turn control cell k on, as far as the earlier groups go.
+    fn allows(self, k: Position) -> bool
+        requires { ⌜ k .0 < 64 * cellWords ⌝ }
+        ensures { λ r. ⌜ r ≡ allowedIn (self .which) (member (self .earlier .words)) (k .0) ⌝ }
+    {
+        let which = self.which;
+        match which {
+            Pass::First => !self.earlier.has(k),
+            Pass::Second => true,
+        }
     }
 }
 
@@ -65,31 +78,21 @@ fn turn_on(k: Position, nets: NetSet, state: Turned) -> Turned
 
 // One position of a pass: at a driver whose net is wanted, whose control cell is allowed and
 // unmarked, that control cell is turned on. Where its own net is covered, it is marked.
-fn turn(
-    file: &[u8],
-    heads: &[u16],
-    links: &[u16],
-    counts: &[u16],
-    which: Pass,
-    g: usize,
-    earlier: CellSet,
-    c: usize,
-    state: Turned,
-) -> Turned
-    requires { ⌜ Ready (now file) (now heads) (now links) (now counts) ⌝ }
-    requires { ⌜ c < cellsOf (now file) ⌝ }
-    ensures { λ r. ⌜ ((on : List ℕ) → Holds (boardOf (now (file .entry))) on state → Holds (boardOf (now (file .entry))) (turn (boardOf (now (file .entry))) (wantedIn (boardOf (now (file .entry))) which g) (allowedIn which (member (earlier .words))) c on) r) ⌝ }
+fn turn(file: &[u8], table: &[u16; TABLE], rule: Rule, c: Position, state: Turned) -> Turned
+    requires { ⌜ Ready (now file) (now table) ⌝ }
+    requires { ⌜ c .0 < cellsOf (now file) ⌝ }
+    ensures { λ r. ⌜ Leads (boardOf (now (file .entry))) (turnBy (boardOf (now (file .entry))) rule (c .0)) state r ⌝ }
 {
-    let driver = driver_at(file, c);
+    let driver = driver_at(file, c.0 as usize);
     let Driver::Of(k, n) = driver else {
         return state;
     };
-    if wanted(which, g, held(counts, n.0 as usize)) {
-        if allowed(which, earlier, k) {
+    if rule.wants(drivers_on(table, n)) {
+        if rule.allows(k) {
             if state.covered.has(n) {
                 return state;
             }
-            let nets = nets_of(file, heads, links, k.0 as usize);
+            let nets = nets_of(file, table, k);
             return turn_on(k, nets, state);
         }
     }
@@ -99,26 +102,20 @@ fn turn(
 // A pass over the highest drivers, from the highest down: at no other does it turn anything on.
 pub(crate) fn run_pass(
     file: &[u8],
-    heads: &[u16],
-    links: &[u16],
-    counts: &[u16],
-    order: &[u16],
+    table: &[u16; TABLE],
     found: usize,
-    which: Pass,
-    g: usize,
-    earlier: CellSet,
+    rule: Rule,
     first: Turned,
 ) -> Turned
-    requires { ⌜ Ready (now file) (now heads) (now links) (now counts) ⌝ }
-    requires { ⌜ Order (now file) (now order) found ⌝ }
-    ensures { λ r. ⌜ ((on : List ℕ) → Holds (boardOf (now (file .entry))) on first → Holds (boardOf (now (file .entry))) (pass (boardOf (now (file .entry))) (wantedIn (boardOf (now (file .entry))) which g) (allowedIn which (member (earlier .words))) (cellsOf (now (file .entry))) on) r) ⌝ }
+    requires { ⌜ Order (now file) (now table) found ⌝ }
+    ensures { λ r. ⌜ Leads (boardOf (now (file .entry))) (passBy (boardOf (now (file .entry))) rule (cellsOf (now (file .entry)))) first r ⌝ }
 {
     let mut state = first;
     let mut i = found;
     while 0 < i {
         i -= 1;
-        let c = held(order, i);
-        state = turn(file, heads, links, counts, which, g, earlier, c, state);
+        let c = Position(spare(table, i) as u16);
+        state = turn(file, table, rule, c, state);
     }
     state
 }

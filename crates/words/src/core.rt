@@ -12,7 +12,7 @@ ghost use Rattle.words.specs.Sets.{member, plus, either, unlike, meetsIn
 use super::Lie;
 
 // Number i is a member.
-pub(crate) fn has(words: &[u64], i: usize) -> bool
+pub fn has(words: &[u64], i: usize) -> bool
     requires { ⌜ i < 64 * length (now words) ⌝ }
     ensures { λ r. ⌜ r ≡ member (now (words .entry)) i ⌝ }
 {

@@ -24,5 +24,4 @@ net-at-spec =
     (λ c κs. let p = c .before .pre in let f = few _ _ (whole-shaped _ _ p) (p .below) in omega arith)
     (λ c. let h = in-record _ _ _ (c .before .before .pre) (c .record-start .ensures) in omega arith)
     (λ c κs. let h = in-record _ _ _ (c .before .before .pre) (c .record-start .ensures) in omega arith)
-    (λ c. search needs)
     (λ c. c .pair .ensures ∙ as-read _ _ _ (c .before .before .before .pre) (c .before .record-start .ensures)))

@@ -1,8 +1,7 @@
--- The program's own tables are blank, and what was read is within the file.
+-- The program's own table is blank, and what was read is within the file.
 use native.Mathlib.Omega.{arith}
 use borrow.Author.Needs.{needs}
-use Rattle.rules.specs.Refusals.{mostCells, mostNets}
-use Rattle.chains.proofs.Blanks.{blank}
+use Rattle.chains.proofs.TableLaws.{blank}
 use Rattle.listing.proofs.main.Statement.{statement}
 use Rattle.listing.proofs.main.Tie as tie
 
@@ -13,10 +12,24 @@ part-list-end c =
     omega (arith, f)
 
 list-requires : tie.Need-list-requires
-list-requires c κs =
-    record { heads-are = blank mostCells; links-are = blank mostCells; net-heads-are = blank mostNets; net-links-are = blank mostCells; counts-are = blank mostNets }
+list-requires c κs = blank
 
 pub main-spec : {M : Type 1} → statement M
 main-spec =
     tie.close
-    (tie.spec (λ c. search needs) (λ c κs. search needs) (λ c. search needs) (λ c. search needs) (λ c. search needs) (λ c κs. search needs) (λ c. tt) (λ c. search needs) (λ c. search needs) part-list-end (λ c. search needs) (λ c. search needs) (λ c. search needs) (λ c. search needs) (λ c. search needs) list-requires (λ c. search needs) (λ c κs. search needs) (λ c. tt) (λ c. tt))
+    (tie.spec
+    (λ c. search needs)
+    (λ c κs. search needs)
+    (λ c. search needs)
+    (λ c. search needs)
+    (λ c. search needs)
+    (λ c κs. search needs)
+    (λ c. tt)
+    (λ c. search needs)
+    (λ c. search needs)
+    part-list-end
+    list-requires
+    (λ c. search needs)
+    (λ c κs. search needs)
+    (λ c. tt)
+    (λ c. tt))

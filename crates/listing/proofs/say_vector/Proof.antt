@@ -6,22 +6,25 @@ use Rattle.listing.proofs.Short.{few-cells, row-short}
 use Rattle.listing.proofs.say_vector.Statement.{statement}
 use Rattle.listing.proofs.say_vector.Tie as tie
 
+abbrev start : tie.After-write-vector → tie.Start
+start c = c .before .before .before .before
+
 few : (s : tie.Start) → s .args .cells ≤ 1024
-few s = few-cells _ _ _ _ _ (s .pre .0) (s .pre .1 .0)
+few s = few-cells _ _ _ (s .pre .0) (s .pre .1 .0)
 
 write-vector-requires : tie.Need-write-vector-requires
 write-vector-requires c κs =
-    let s = c .before .before .before .before .before in
+    let s = c .before .before .before in
     let p = s .pre in
     record { ready = p .0; cells-are = p .1 .0; planned = p .1 .1 .0; below = p .1 .1 .1; long = row-short _ (few s) }
 
 row-bytes-requires : tie.Need-row-bytes-requires
-row-bytes-requires c κs = let l = few (c .before .before .before .before .before .before .before) in omega arith
+row-bytes-requires c κs = let l = few (start (c .before)) in omega arith
 
 -- the row's bytes are within its 128
 short : (d : tie.After-row-bytes) → d .row-bytes .result ≤ 128
 short d =
-    let s = row-short _ (few (d .before .before .before .before .before .before .before .before)) in
+    let s = row-short _ (few (start (d .before .before))) in
     let e = d .row-bytes .ensures in
     omega arith
 
@@ -31,7 +34,18 @@ part-say-row-end c = let s = short (c .before) in omega arith
 say-row-requires : tie.Need-say-row-requires
 say-row-requires c κs = let s = short (c .before .before) in omega arith
 
+returns : tie.Need-returns
+returns c = let d = c .before .before .before in d .before .before .write-vector .ensures .1 .1
+
 pub say-vector-spec : {M : Type 1} → statement M
 say-vector-spec =
     tie.close
-    (tie.spec (λ c. search needs) write-vector-requires row-bytes-requires (λ c. search needs) (λ c. search needs) part-say-row-end say-row-requires (λ c. tt))
+    (tie.spec
+    (λ c. search needs)
+    write-vector-requires
+    row-bytes-requires
+    (λ c. search needs)
+    (λ c. search needs)
+    part-say-row-end
+    say-row-requires
+    returns)

@@ -1,52 +1,72 @@
--- The lowest place moves to i where i crosses a higher one; a net set clear of those passed and a twin's cross none.
-use mathlib.Core.Path.{sym, _∙_}
+-- The search for the lowest control cell that fails; one without a driver does not.
+use Prim.Native.Nat.{ℕ, _-_, _<_}
+use mathlib.Core.Path.{_≡_, sym, _∙_}
+use mathlib.Core.Bool.{false}
+use mathlib.Core.List.{List, []}
 use native.Mathlib.Omega.{arith}
-use borrow.Author.Needs.{needs}
-use Rattle.rules.specs.File.{boardOf}
-use Rattle.board.proofs.Crossings.{from-crossed, from-passed, from-none, twin-clear, clear-none}
+use Rattle.rules.specs.File.{boardOf, cellsOf}
+use Rattle.rules.specs.Refusals.{crossed}
+use Rattle.rules.proofs.Searching.{Searched, search-start, search-next, found, ended}
+use Rattle.chains.proofs.Walks.{cells-fit}
+use Rattle.board.proofs.ControlChecks.{past-idle, idle-uncrossed}
 use Rattle.board.proofs.controls.lowest_crossed.Statement.{statement}
 use Rattle.board.proofs.controls.lowest_crossed.Tie as tie
 
-returns : tie.Need-returns
-unfolding boardOf
+abbrev Inv-loop : tie.InvT-loop
+Inv-loop file table cells k₀ k = Searched (cellsOf file) (crossed (boardOf file)) k
+
+abbrev μ-loop : tie.MeasureT-loop
+μ-loop file table cells k₀ k = cells - k
+
+abbrev start : tie.At-loop Inv-loop μ-loop → tie.Start Inv-loop μ-loop
+start l = l .before .before .before
+
+driven-from-requires-2 : tie.Need-driven-from-requires-2 Inv-loop μ-loop
+driven-from-requires-2 c κs =
+    let p = start (c .before .before .before) .pre in
+    let e = p .1 in
+    let f = cells-fit _ (p .0 .by-control .checked) in
+    let t = c .before .before .loop-test .taken in
+    (omega arith, omega arith)
+
+returns : tie.Need-returns Inv-loop μ-loop
 returns c =
-    let p = c .before .before .before .before .before .before .before .pre in
-    let e = p .0 .cells-are in
-    let l = p .1 .0 .0 in
-    from-passed _ _ _ (omega arith) (p .1 .1 .1 .found-is) (clear-none _ (p .0 .by-control .checked) _ _ _ (p .1 .1 .1) (p .1 .1 .0) (sym (c .before .clear .ensures) ∙ c .if1 .taken))
+    let l = c .before .before .before .before in
+    let e = start l .pre .1 in
+    let t = c .before .before .before .loop-test .taken in
+    c .refuse .ensures ∙ sym (found 10 [] (l .loop .inv) (omega arith) (sym (c .before .before .crosses .ensures) ∙ c .before .if1 .taken))
 
-has-twin-requires : tie.Need-has-twin-requires
-has-twin-requires c κs =
-    let p = c .before .before .before .before .before .before .before .before .pre in
-    let e = p .0 .cells-are in
-    let l = p .1 .0 .1 in
-    (p .0 .by-control, (p .0 .by-net, (omega arith, p .1 .1 .0)))
+loop-less : tie.Need-loop-less Inv-loop μ-loop
+loop-less c =
+    let up = c .driven-from2 .ensures .1 .upward in
+    let t = c .before .before .before .loop-test .taken in
+    omega arith
 
-returns-2 : tie.Need-returns-2
-unfolding boardOf
-returns-2 c =
-    let p = c .before .before .before .before .before .before .before .before .before .before .pre in
-    let e = p .0 .cells-are in
-    let l = p .1 .0 .0 in
-    from-passed _ _ _ (omega arith) (p .1 .1 .1 .found-is) (twin-clear _ (p .0 .by-control .checked) _ (c .before .has-twin .ensures (c .if3 .taken)) (from-none _ _ _ (omega arith) (p .1 .1 .1 .found-is) (c .before .before .if2 .taken ∙ e)))
-
-returns-3 : tie.Need-returns-3
-unfolding boardOf
-returns-3 c =
-    let p = c .before .before .before .before .before .before .before .before .before .before .pre in
-    let e = p .0 .cells-are in
-    let l = p .1 .0 .0 in
-    from-crossed _ _ (omega arith) (sym (c .before .crosses .ensures) ∙ c .if4 .taken)
-
-returns-4 : tie.Need-returns-4
-unfolding boardOf
-returns-4 c =
-    let p = c .before .before .before .before .before .before .before .before .before .before .pre in
-    let e = p .0 .cells-are in
-    let l = p .1 .0 .0 in
-    from-passed _ _ _ (omega arith) (p .1 .1 .1 .found-is) (sym (c .before .crosses .ensures) ∙ c .if4 .left)
+loop-again : tie.Need-loop-again Inv-loop μ-loop
+loop-again c =
+    let l = c .before .before .before .before in
+    let p = start l .pre in
+    let e = p .1 in
+    let t = c .before .before .before .loop-test .taken in
+    let d = c .driven-from2 .ensures in
+    let low = d .0 in
+    past-idle _ _ _ _ _ (idle-uncrossed _ _ (p .0 .by-control))
+    (search-next (l .loop .inv) (omega arith) (sym (c .before .before .crosses .ensures) ∙ c .before .if1 .left)) (omega arith) (d .1)
 
 pub lowest-crossed-spec : {M : Type 1} → statement M
 lowest-crossed-spec =
     tie.close
-    (tie.spec (λ c κs. search needs) returns has-twin-requires returns-2 (λ c κs. let p = c .before .before .before .before .before .before .before .before .pre in (p .0, (p .1 .0 .0, p .1 .1 .0))) returns-3 returns-4)
+    (tie.spec
+    Inv-loop
+    μ-loop
+    (λ c κs. let p = c .before .pre in let e = p .1 in let f = cells-fit _ (p .0 .by-control .checked) in (omega arith, omega arith))
+    (λ c. let p = c .before .before .pre in let e = p .1 in let d = c .driven-from .ensures in let low = d .0 in past-idle _ _ _ _ _ (idle-uncrossed _ _ (p .0 .by-control)) (search-start _ _) (omega arith) (d .1))
+    (λ c. let p = start (c .before) .pre in let e = p .1 in let f = cells-fit _ (p .0 .by-control .checked) in let t = c .loop-test .taken in omega arith)
+    (λ c κs. let p = start (c .before) .pre in let e = p .1 in let t = c .loop-test .taken in (p .0, (p .1, t)))
+    (λ c κs. let p = start (c .before .before .before) .pre in let e = p .1 in let f = cells-fit _ (p .0 .by-control .checked) in let t = c .before .before .loop-test .taken in omega arith)
+    returns
+    (λ c. let p = start (c .before .before .before) .pre in let e = p .1 in let f = cells-fit _ (p .0 .by-control .checked) in let t = c .before .before .loop-test .taken in omega arith)
+    driven-from-requires-2
+    loop-less
+    loop-again
+    (λ c. let e = start (c .before) .pre .1 in let left = c .loop-test .left in sym (ended 10 (c .before .loop .inv) (omega arith))))

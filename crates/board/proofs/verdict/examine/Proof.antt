@@ -1,33 +1,75 @@
--- The file's verdict and then the tables', in a row; the tables are filled where the file is whole.
-use mathlib.Core.Path.{sym, _∙_}
+-- The file's verdict, then the nets' and the control cells', in a row; the table is filled where the file is whole.
+use mathlib.Core.Path.{_≡_, sym, _∙_}
 use borrow.Author.Needs.{needs}
+use Rattle.rules.specs.Refusals.{judge, fileChecks}
+use Rattle.rules.specs.declared.Verdict.the-variants.{Accepted}
 use Rattle.rules.proofs.Shape.{laid, shaped, one-block}
 use Rattle.rules.proofs.Verdicts.{never, stopped, passed}
-use Rattle.board.proofs.Order.{row-file}
+use Rattle.board.proofs.Order.{row-file, row-nets}
 use Rattle.board.proofs.verdict.examine.Statement.{statement}
 use Rattle.board.proofs.verdict.examine.Tie as tie
+
+-- the places on the way: the file was judged and accepted, its sizes read, the table filled, the nets judged
+abbrev start : tie.After-file-verdict → tie.Start
+start c = c .before .before
+
+abbrev judged : tie.After-enum-told → tie.After-file-verdict
+judged c = c .before .before
+
+abbrev accepted : tie.After-read-sizes → tie.After-enum-told
+accepted c = c .before
+
+abbrev sized : tie.After-fill-table → tie.After-read-sizes
+sized c = c .before .before
+
+abbrev filled : tie.After-nets-verdict → tie.After-fill-table
+filled c = c .before .before
+
+-- checks 1 to 6 accept the file
+whole : (c : tie.After-enum-told) → judge (fileChecks (start (judged c) .args .file .now)) ≡ Accepted
+whole c = sym (judged c .file-verdict .ensures) ∙ c .enum-told .given .1
 
 returns : tie.Need-returns
 returns c =
     let e = stopped (row-file _) (c .before .before .file-verdict .ensures) (c .enum-told2 .given .1) in
     (e, λ a. absurd (never _ (sym (c .enum-told2 .given .1) ∙ e ∙ a)))
 
-read-sizes-requires : tie.Need-read-sizes-requires
-read-sizes-requires c κs = one-block _ (laid _ (shaped _ (sym (c .before .before .file-verdict .ensures) ∙ c .enum-told .given .1)))
-
-fill-tables-requires : tie.Need-fill-tables-requires
-fill-tables-requires c κs =
-    record { checked = sym (c .before .before .before .before .before .before .before .before .file-verdict .ensures) ∙ c .before .before .before .before .before .before .enum-told .given .1; cells-are = c .before .before .before .before .before .read-sizes .ensures .cells; blank = c .before .before .before .before .before .before .before .before .before .before .before .before .before .before .before .pre }
-
-tables-verdict-requires : tie.Need-tables-verdict-requires
-tables-verdict-requires c κs =
-    record { filled = c .before .before .before .before .before .before .before .before .before .before .before .before .before .before .before .fill-tables .ensures; cells-are = c .before .before .before .before .before .before .before .before .before .before .before .before .before .before .before .before .before .before .before .before .before .read-sizes .ensures .cells; nets-are = c .before .before .before .before .before .before .before .before .before .before .before .before .before .before .before .before .before .before .before .before .before .read-sizes .ensures .nets }
+fill-table-requires : tie.Need-fill-table-requires
+fill-table-requires c κs =
+    let s = c .before in
+    let a = accepted s in
+    record { checked = whole a; cells-are = s .read-sizes .ensures .cells; blank = start (judged a) .pre }
 
 returns-2 : tie.Need-returns-2
 returns-2 c =
-    (passed (row-file _) (c .before .before .before .before .before .before .before .before .before .before .before .before .before .before .before .before .before .before .before .before .before .before .before .before .before .file-verdict .ensures) (c .before .before .before .before .before .before .before .before .before .before .before .before .before .before .before .before .before .before .before .before .before .before .before .enum-told .given .1) (c .tables-verdict .ensures), λ a. c .before .before .before .before .before .before .before .before .before .before .before .before .before .before .before .before .fill-tables .ensures)
+    let n = c .before .before in
+    let a = accepted (sized (filled n)) in
+    let e = passed (row-file _) (judged a .file-verdict .ensures) (a .enum-told .given .1) (stopped (row-nets _) (n .nets-verdict .ensures) (c .enum-told4 .given .1)) in
+    (e, λ b. absurd (never _ (sym (c .enum-told4 .given .1) ∙ e ∙ b)))
+
+returns-3 : tie.Need-returns-3
+returns-3 c =
+    let told = c .before .before in
+    let n = told .before .before in
+    let a = accepted (sized (filled n)) in (
+      passed (row-file _) (judged a .file-verdict .ensures) (a .enum-told .given .1)
+          (passed (row-nets _) (n .nets-verdict .ensures) (told .enum-told3 .given .1) (c .controls-verdict .ensures)),
+      λ b. filled n .fill-table .ensures,
+    )
 
 pub examine-spec : {M : Type 1} → statement M
 examine-spec =
     tie.close
-    (tie.spec (λ c κs. search needs) (λ c. search needs) (λ c. search needs) returns read-sizes-requires fill-tables-requires tables-verdict-requires (λ c. search needs) (λ c. search needs) (λ c. search needs) (λ c. search needs) (λ c. search needs) returns-2)
+    (tie.spec
+    (λ c κs. search needs)
+    (λ c. search needs)
+    (λ c. search needs)
+    returns
+    (λ c κs. one-block _ (laid _ (shaped _ (whole c))))
+    fill-table-requires
+    (λ c κs. let t = c .before in (t .fill-table .ensures, sized t .read-sizes .ensures .nets))
+    (λ c. search needs)
+    (λ c. search needs)
+    returns-2
+    (λ c κs. let t = filled (c .before .before .before) in (t .fill-table .ensures, sized t .read-sizes .ensures .cells))
+    returns-3)

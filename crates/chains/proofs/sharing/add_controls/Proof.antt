@@ -1,66 +1,82 @@
 -- A walk along n's chain that gathers the control cells of its drivers.
-use Prim.Native.Nat.{ℕ, _-_, _≤_}
-use mathlib.Core.Path.{_∙_, ap}
+use Prim.Native.Nat.{ℕ, _<_}
+use mathlib.Core.Path.{_≡_, _∙_, ap}
 use mathlib.Core.Bool.{Bool}
+use mathlib.Core.List.{List}
 use native.Mathlib.Omega.{arith}
 use Rattle.rules.specs.File.{boardOf, cellsOf}
+use Rattle.rules.specs.Refusals.{mostNets}
 use Rattle.words.specs.Sets.{member}
-use Rattle.chains.specs.Chains.{NetOf, keyed}
-use Rattle.chains.proofs.Walks.{net-in, head-low, link-low}
+use Rattle.chains.specs.Table.{NetOf, headIn}
+use Rattle.chains.specs.Chains.{keyed}
+use Rattle.chains.proofs.Walks.{net-fits, cells-fit, cell-fits, link-low}
 use Rattle.chains.proofs.Gathering.{Gathered, gather-start, gather-on, gather-next, gather-ended}
 use Rattle.chains.proofs.Brought.{bringsAbove, brings-net, control-grown, all-controls}
 use Rattle.chains.proofs.sharing.add_controls.Statement.{statement}
 use Rattle.chains.proofs.sharing.add_controls.Tie as tie
 
 abbrev Inv-loop : tie.InvT-loop
-Inv-loop file heads links n low more₀ at₀ more at =
-    (at ≤ cellsOf file) × Gathered (keyed (boardOf file) NetOf n) (bringsAbove (boardOf file) low n) (member (more₀ .words)) (member (more .words)) (cellsOf file) at
+Inv-loop file table low more₀ at₀ more at =
+    (n : ℕ) → n < mostNets → at₀ ≡ headIn NetOf table n → Gathered (keyed (boardOf file) NetOf n) (bringsAbove (boardOf file) (low .0) n) (member (more₀ .words)) (member (more .words)) (cellsOf file) at
 
 abbrev μ-loop : tie.MeasureT-loop
-μ-loop file heads links n low more₀ at₀ more at = at
+μ-loop file table low more₀ at₀ more at = at
 
-loop-holds : tie.Need-loop-holds Inv-loop μ-loop
-loop-holds c =
-    let p = c .before .before .before .before .pre in
-    let l = net-in _ _ _ _ (p .0) (p .1) in
-    ((let h = head-low _ _ _ _ (p .0) _ l in let e = c .held .ensures in omega arith), gather-start _ _ _ _ (p .0) _ _ (brings-net _ _ _) l _ _ (c .held .ensures))
+abbrev start : tie.At-loop Inv-loop μ-loop → tie.Start Inv-loop μ-loop
+start l = l .before .before .before
 
-add-control-requires : tie.Need-add-control-requires Inv-loop μ-loop
-add-control-requires c κs =
-    let i = c .before .loop .inv .0 in
-    let t = c .loop-test .taken in
-    record { checked = c .before .before .before .before .before .before .pre .0 .checked; below = omega arith }
+abbrev file : tie.At-loop Inv-loop μ-loop → List ℕ
+file l = start l .args .file .now
 
-held-requires-2 : tie.Need-held-requires-2 Inv-loop μ-loop
-held-requires-2 c κs =
-    let r = c .before .before .before .before .before .before .before .pre .0 .cells in
-    let i = c .before .before .loop .inv .0 in
+abbrev net : tie.At-loop Inv-loop μ-loop → ℕ
+net l = start l .args .n .0
+
+-- the walk so far
+walk : (l : tie.At-loop Inv-loop μ-loop) → Gathered (keyed (boardOf (file l)) NetOf (net l)) (bringsAbove (boardOf (file l)) (start l .args .low .0) (net l)) (member (start l .args .met .words)) (member (l .loop .more .words)) (cellsOf (file l)) (l .loop .at)
+walk l =
+    let p = start l .pre in
+    l .loop .inv (net l) (net-fits _ (p .0 .checked) _ (p .1)) (l .before .net-head .ensures)
+
+-- the cell that the walk has come to is one of the file's
+here : (c : tie.After-cell-named Inv-loop μ-loop) → c .cell-named .result .0 < cellsOf (file (c .before .before))
+here c =
+    let u = walk (c .before .before) .under in
     let t = c .before .loop-test .taken in
+    let e = c .cell-named .ensures in
     omega arith
 
 loop-less : tie.Need-loop-less Inv-loop μ-loop
 loop-less c =
-    let t = c .before .before .loop-test .taken in
-    let e = c .held2 .ensures in
-    let l = link-low _ _ _ _ (c .before .before .before .before .before .before .before .before .pre .0) (c .before .before .before .loop .at - 1) in
+    let n = c .before .before in
+    let t = n .before .loop-test .taken in
+    let e = c .net-link .ensures in
+    let d = n .cell-named .ensures in
+    let l = link-low _ _ _ (start (n .before .before) .pre .0) _ (here n) in
     omega arith
 
 loop-again : tie.Need-loop-again Inv-loop μ-loop
-loop-again c =
-    let ch = c .before .before .before .before .before .before .before .before .pre .0 in
-    let t = c .before .before .loop-test .taken in
-    let inv = c .before .before .before .loop .inv in
-    let e = c .held2 .ensures in
-    let low = link-low _ _ _ _ ch (c .before .before .before .loop .at - 1) in
-    let under = inv .0 in
-    let on = gather-on _ _ _ _ ch _ _ (brings-net _ _ _) _ (inv .1) t in
-    (omega arith, gather-next _ _ _ _ ch _ _ (brings-net _ _ _) _ _ _ (inv .1) t (λ j. ap (λ (f : ℕ → Bool). f j) (c .before .add-control .ensures) ∙ control-grown _ _ _ _ _ on j) e)
-
-returns : tie.Need-returns Inv-loop μ-loop
-returns c =
-    all-controls _ _ _ _ _ (gather-ended _ _ _ _ (c .before .before .before .before .before .before .pre .0) _ _ (brings-net _ _ _) _ (c .before .loop .inv .1) (c .loop-test .left))
+loop-again c k few e =
+    let n = c .before .before in
+    let l = n .before .before in
+    let ch = start l .pre .0 in
+    let t = n .before .loop-test .taken in
+    let inv = l .loop .inv k few e in
+    let on = gather-on _ _ _ ch _ _ (brings-net _ _ _) _ _ inv t (n .cell-named .ensures) in
+    gather-next _ _ _ ch _ _ (brings-net _ _ _) _ _ _ _ inv t (n .cell-named .ensures)
+    (λ j. ap (λ (f : ℕ → Bool). f j) (c .before .add-control .ensures) ∙ control-grown _ _ _ _ _ on j)
+    (c .net-link .ensures)
 
 pub add-controls-spec : {M : Type 1} → statement M
 add-controls-spec =
     tie.close
-    (tie.spec Inv-loop μ-loop (λ c κs. let p = c .before .before .before .pre in net-in _ _ _ _ (p .0) (p .1)) loop-holds (λ c. omega arith) add-control-requires (λ c. omega arith) held-requires-2 loop-less loop-again returns)
+    (tie.spec
+    Inv-loop
+    μ-loop
+    (λ c κs. let p = c .before .pre in net-fits _ (p .0 .checked) _ (p .1))
+    (λ c n few e. gather-start _ _ _ (c .before .before .pre .0) _ _ (brings-net _ _ _) few _ _ e)
+    (λ c κs. let u = walk (c .before) .under in let f = cells-fit _ (start (c .before) .pre .0 .checked) in (c .loop-test .taken, omega arith))
+    (λ c κs. record { checked = start (c .before .before) .pre .0 .checked; below = here c })
+    (λ c κs. cell-fits _ (start (c .before .before .before) .pre .0 .checked) _ (here (c .before)))
+    loop-less
+    loop-again
+    (λ c. all-controls _ _ _ _ _ (gather-ended _ _ _ (start (c .before) .pre .0) _ _ (brings-net _ _ _) _ (walk (c .before)) (c .loop-test .left))))

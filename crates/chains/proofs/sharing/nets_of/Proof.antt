@@ -1,78 +1,116 @@
 -- A walk along k's chain that gathers the nets of its drivers.
-use Prim.Native.Nat.{_-_, _≤_}
-use mathlib.Core.Path.{_≡_, refl, sym}
+use Prim.Native.Nat.{ℕ, _<_}
+use mathlib.Core.Path.{_≡_, refl, sym, _∙_, ap}
+use mathlib.Core.Bool.{true}
+use mathlib.Core.List.{List}
 use borrow.Author.Needs.{needs}
 use native.Mathlib.Omega.{arith}
 use lib.ListN.{length}
-use Rattle.rules.specs.File.{boardOf, cellsOf}
+use Rattle.rules.specs.File.{boardOf, cellsOf, netOf}
+use Rattle.rules.specs.Refusals.{mostCells}
 use Rattle.words.specs.Sets.{netWords, member, nothing}
 use Rattle.words.proofs.Members.{member-zeros}
-use Rattle.chains.specs.Chains.{ControlCell, keyed}
-use Rattle.chains.proofs.Walks.{cell-in, head-low, link-low}
+use Rattle.chains.specs.Table.{ControlCell, headIn}
+use Rattle.chains.specs.Chains.{keyed}
+use Rattle.chains.proofs.Walks.{cell-fits, cells-fit, link-low}
 use Rattle.chains.proofs.Gathering.{Gathered, gather-start, gather-on, gather-next, gather-ended}
 use Rattle.chains.proofs.Brought.{brings, brings-control, net-brought, all-nets, chained-net}
 use Rattle.chains.proofs.sharing.nets_of.Statement.{statement}
 use Rattle.chains.proofs.sharing.nets_of.Tie as tie
 
 abbrev Inv-loop : tie.InvT-loop
-Inv-loop file heads links k words₀ at₀ words at =
-    (at ≤ cellsOf file) × Gathered (keyed (boardOf file) ControlCell k) (brings (boardOf file) k) nothing (member words) (cellsOf file) at × (length words ≡ netWords)
+Inv-loop file table words₀ at₀ words at =
+    ((k : ℕ) → k < mostCells → at₀ ≡ headIn ControlCell table k → Gathered (keyed (boardOf file) ControlCell k) (brings (boardOf file) k) nothing (member words) (cellsOf file) at) × (length words ≡ netWords)
 
 abbrev μ-loop : tie.MeasureT-loop
-μ-loop file heads links k words₀ at₀ words at = at
+μ-loop file table words₀ at₀ words at = at
+
+abbrev start : tie.At-loop Inv-loop μ-loop → tie.Start Inv-loop μ-loop
+start l = l .before .before .before
+
+abbrev file : tie.At-loop Inv-loop μ-loop → List ℕ
+file l = start l .args .file .now
+
+abbrev control : tie.At-loop Inv-loop μ-loop → ℕ
+control l = start l .args .k .0
+
+-- the walk so far
+walk : (l : tie.At-loop Inv-loop μ-loop) → Gathered (keyed (boardOf (file l)) ControlCell (control l)) (brings (boardOf (file l)) (control l)) nothing (member (l .loop .words)) (cellsOf (file l)) (l .loop .at)
+walk l =
+    let p = start l .pre in
+    l .loop .inv .0 (control l) (cell-fits _ (p .0 .checked) _ (p .1)) (l .before .head .ensures)
+
+-- the cell that the walk has come to is one of the file's, and a driver of k
+here : (c : tie.After-cell-named Inv-loop μ-loop) → c .cell-named .result .0 < cellsOf (file (c .before .before))
+here c =
+    let u = walk (c .before .before) .under in
+    let t = c .before .loop-test .taken in
+    let e = c .cell-named .ensures in
+    omega arith
+
+on : (c : tie.After-cell-named Inv-loop μ-loop) → keyed (boardOf (file (c .before .before))) ControlCell (control (c .before .before)) (c .cell-named .result .0) ≡ true
+on c = gather-on _ _ _ (start (c .before .before) .pre .0) _ _ (brings-control _ _) _ _ (walk (c .before .before)) (c .before .loop-test .taken) (c .cell-named .ensures)
 
 loop-holds : tie.Need-loop-holds Inv-loop μ-loop
 loop-holds c =
-    let p = c .before .before .before .before .pre in
-    let l = cell-in _ _ _ _ (p .0) (p .1) in
-    ((let h = head-low _ _ _ _ (p .0) _ l in let e = c .held .ensures in omega arith), rw (member-zeros netWords) (gather-start _ _ _ _ (p .0) _ _ (brings-control _ _) l nothing _ (c .held .ensures)), refl)
+    (λ k few e. rw (member-zeros netWords) (gather-start _ _ _ (c .before .before .pre .0) _ _ (brings-control _ _) few nothing _ e), refl)
 
-net-at-requires : tie.Need-net-at-requires Inv-loop μ-loop
-net-at-requires c κs =
-    let i = c .before .before .loop .inv .0 in
-    let t = c .before .loop-test .taken in
-    record { checked = c .before .before .before .before .before .before .before .pre .0 .checked; below = omega arith }
+-- the place where the cell was named, from where its net was read
+abbrev named : tie.After-net-at Inv-loop μ-loop → tie.After-cell-named Inv-loop μ-loop
+named c = c .before .before
 
 add-requires : tie.Need-add-requires Inv-loop μ-loop
 add-requires c κs =
-    let ch = c .before .before .before .before .before .before .before .before .pre .0 in
-    let t = c .before .before .loop-test .taken in
-    let inv = c .before .before .before .loop .inv in
-    let under = inv .0 in
-    let on = gather-on _ _ _ _ ch _ _ (brings-control _ _) _ (inv .1) t in
-    let n = chained-net _ (ch .checked) _ _ (omega arith) on in
-    omega (arith, c .net-at .ensures, inv .2)
+    let net = c .before .before in
+    let n = named net in
+    let l = n .before .before in
+    let b = chained-net _ (start l .pre .0 .checked) _ _ (here n) (on n) in
+    omega (arith, net .net-at .ensures, l .loop .inv .1)
 
-held-requires-2 : tie.Need-held-requires-2 Inv-loop μ-loop
-held-requires-2 c κs =
-    let r = c .before .before .before .before .before .before .before .before .before .before .pre .0 .cells in
-    let i = c .before .before .before .before .before .loop .inv .0 in
-    let t = c .before .before .before .before .loop-test .taken in
-    omega arith
+link-requires : tie.Need-link-requires Inv-loop μ-loop
+link-requires c κs =
+    let n = named (c .before .before .before .before) in
+    cell-fits _ (start (n .before .before) .pre .0 .checked) _ (here n)
 
 loop-less : tie.Need-loop-less Inv-loop μ-loop
 loop-less c =
-    let t = c .before .before .before .before .before .loop-test .taken in
-    let e = c .held2 .ensures in
-    let l = link-low _ _ _ _ (c .before .before .before .before .before .before .before .before .before .before .before .pre .0) (c .before .before .before .before .before .before .loop .at - 1) in
+    let n = named (c .before .before .before .before .before) in
+    let t = n .before .loop-test .taken in
+    let e = c .link .ensures in
+    let d = n .cell-named .ensures in
+    let l = link-low _ _ _ (start (n .before .before) .pre .0) _ (here n) in
     omega arith
 
 loop-again : tie.Need-loop-again Inv-loop μ-loop
 loop-again c =
-    let ch = c .before .before .before .before .before .before .before .before .before .before .before .pre .0 in
-    let t = c .before .before .before .before .before .loop-test .taken in
-    let inv = c .before .before .before .before .before .before .loop .inv in
-    let e = c .held2 .ensures in
-    let low = link-low _ _ _ _ ch (c .before .before .before .before .before .before .loop .at - 1) in
-    let under = inv .0 in
-    let on = gather-on _ _ _ _ ch _ _ (brings-control _ _) _ (inv .1) t in
-    (omega arith, gather-next _ _ _ _ ch _ _ (brings-control _ _) _ _ _ (inv .1) t (net-brought _ _ _ _ _ _ (c .before .before .before .net-at .ensures) (c .before .before .add .ensures) on) e, search needs)
-
-returns : tie.Need-returns Inv-loop μ-loop
-returns c =
-    all-nets _ _ _ (gather-ended _ _ _ _ (c .before .before .before .before .before .before .pre .0) _ _ (brings-control _ _) _ (c .before .loop .inv .1) (c .loop-test .left))
+    let net = c .before .before .before .before .before in
+    let n = named net in
+    let l = n .before .before in
+    let ch = start l .pre .0 in
+    let t = n .before .loop-test .taken in
+    let same = n .cell-named .ensures in (
+      λ k few e. let inv = l .loop .inv .0 k few e in
+          gather-next _ _ _ ch _ _ (brings-control _ _) _ _ _ _ inv t same
+          (net-brought _ _ _ _ _ _ (net .net-at .ensures) (c .before .before .add .ensures) (gather-on _ _ _ ch _ _ (brings-control _ _) _ _ inv t same))
+          (c .link .ensures),
+      search needs,
+    )
 
 pub nets-of-spec : {M : Type 1} → statement M
 nets-of-spec =
     tie.close
-    (tie.spec Inv-loop μ-loop (λ c κs. let p = c .before .before .before .pre in cell-in _ _ _ _ (p .0) (p .1)) loop-holds (λ c. sym (c .before .before .loop .inv .2)) (λ c. let t = c .before .loop-test .taken in omega arith) net-at-requires add-requires (λ c. let t = c .before .before .before .before .loop-test .taken in omega arith) held-requires-2 loop-less loop-again returns)
+    (tie.spec
+    Inv-loop
+    μ-loop
+    (λ c κs. let p = c .before .pre in cell-fits _ (p .0 .checked) _ (p .1))
+    loop-holds
+    (λ c κs. let u = walk (c .before) .under in let f = cells-fit _ (start (c .before) .pre .0 .checked) in (c .loop-test .taken, omega arith))
+    (λ c. search needs)
+    (λ c κs. let n = c .before in record { checked = start (n .before .before) .pre .0 .checked; below = here n })
+    (λ c. sym (named (c .before) .before .before .loop .inv .1))
+    (λ c. search needs)
+    add-requires
+    link-requires
+    loop-less
+    loop-again
+    (λ c. all-nets _ _ _ (gather-ended _ _ _ (start (c .before) .pre .0) _ _ (brings-control _ _) _ (walk (c .before)) (c .loop-test .left))))

@@ -1,4 +1,4 @@
--- The header's N and SSOL, G by the counts, p by N.
+-- The header's N and SSOL, G by the numbers of drivers, p by N.
 use native.Mathlib.Omega.{arith}
 use Rattle.rules.proofs.Shape.{laid, shaped, one-block}
 use Rattle.plan.proofs.Planned.{plan-from}
@@ -7,7 +7,7 @@ use Rattle.plan.proofs.boards.plan_of.Tie as tie
 
 width-requires : tie.Need-width-requires
 width-requires c κs =
-    let p = c .before .before .before .before .before .before .pre in
+    let p = c .before .before .before .pre in
     let e = c .before .read-sizes .ensures .nets in
     let l = laid _ (shaped _ (p .by-control .checked)) .nets .few in
     omega arith
@@ -20,4 +20,8 @@ returns c =
 pub plan-of-spec : {M : Type 1} → statement M
 plan-of-spec =
     tie.close
-    (tie.spec (λ c κs. one-block _ (laid _ (shaped _ (c .before .before .before .before .pre .by-control .checked)))) (λ c κs. (c .before .before .before .before .before .pre, c .read-sizes .ensures .nets)) width-requires returns)
+    (tie.spec
+    (λ c κs. one-block _ (laid _ (shaped _ (c .before .pre .by-control .checked))))
+    (λ c κs. (c .before .before .pre, c .read-sizes .ensures .nets))
+    width-requires
+    returns)

@@ -1,58 +1,110 @@
 -- The room, then the rows.
-use Prim.Native.Nat.{_*_, _≤_}
-use mathlib.Core.Path.{refl, sym, _∙_, ap, ap₂}
+use Prim.Native.Nat.{ℕ, _*_, _≤_}
+use mathlib.Core.Path.{_≡_, refl, sym, _∙_, ap, ap₂}
+use mathlib.Core.List.{List, []}
 use native.Mathlib.Omega.{arith}
 use borrow.Author.Needs.{needs}
 use borrow.Author.Tests.{ltb-false}
 use Rattle.rules.specs.Basics.{rowBytes}
+use Rattle.rules.specs.File.{boardOf, cellsOf}
+use Rattle.rules.specs.Drivers.{groupsOf}
+use Rattle.rules.specs.Refusals.{judge, groupsChecks, mostCells}
 use Rattle.rules.proofs.Shape.{laid, shaped, one-block}
 use Rattle.rules.proofs.Verdicts.{passed}
+use Rattle.chains.proofs.Walks.{cells-fit}
 use Rattle.rows.proofs.Rowing.{place-low}
 use Rattle.rigcandle.proofs.Answering.{row-groups, groups-refused, groups-accepted, once-off, room-is}
 use Rattle.rigcandle.proofs.Bounds.{groups-few}
 use Rattle.rigcandle.proofs.questions.answer_groups.Statement.{statement}
 use Rattle.rigcandle.proofs.questions.answer_groups.Tie as tie
 
-row-bytes-requires : tie.Need-row-bytes-requires
-row-bytes-requires c κs =
-    let p = c .before .before .before .before .before .before .before .pre in
-    let e = c .before .read-sizes .ensures .cells in
-    let f = laid _ (shaped _ (p .ready .by-control .checked)) .cells .few in
+-- the places on the way: the plan was made, its row's bytes found, the room judged
+abbrev start : tie.After-plan-of → tie.Start
+start c = c .before .before .before .before .before
+
+abbrev planned : tie.After-once → tie.After-plan-of
+planned c = c .before .before .before
+
+abbrev file : tie.After-plan-of → List ℕ
+file c = start c .args .file .now
+
+-- the number of cells, and that it is small
+cells-are : (c : tie.After-plan-of) → c .before .before .read-sizes .result .cells ≡ cellsOf (file c)
+cells-are c = c .before .before .read-sizes .ensures .cells
+
+small : (c : tie.After-plan-of) → c .before .before .read-sizes .result .cells ≤ mostCells
+small c =
+    let e = cells-are c in
+    let f = cells-fit _ (start c .pre .ready .by-control .checked) in
     omega arith
+
+-- what the room's check is
+judged : (c : tie.After-once) → c .once .result ≡ judge (groupsChecks (file (planned c)) (start (planned c) .args .out .now))
+judged c =
+    let p = planned c in
+    let a = start p .args in
+    let bytes = c .before .before in
+    let needed = ap₂ _*_ (p .plan-of .ensures .groups-are) (bytes .row-bytes .ensures ∙ ap rowBytes (cells-are p)) in
+    passed (row-groups (file p) (a .out .now)) refl (start p .pre .counted) (room-is (a .out .now) _ _ _ (c .once .ensures) needed)
 
 mul-once : tie.Need-mul-once
 mul-once c =
-    let p = c .before .before .before .before .before .before .before .before .before .pre in
-    let e = c .before .before .before .read-sizes .ensures .cells in
-    let f = laid _ (shaped _ (p .ready .by-control .checked)) .cells .few in
-    let m = place-low _ _ _ _ (groups-few _ _ (p .ready .accepted) (c .before .before .plan-of .ensures)) (let l : c .before .before .before .read-sizes .result .cells ≤ 1024 = omega arith in l) (c .before .row-bytes .ensures) refl in
+    let p = c .before .before in
+    let m = place-low _ _ _ _ (groups-few _ _ (start p .pre .ready .accepted) (p .plan-of .ensures)) (small p) (c .before .row-bytes .ensures) refl in
     omega arith
 
 returns : tie.Need-returns
 returns c =
-    let p = c .before .before .before .before .before .before .before .before .before .before .before .before .before .pre in
-    let a = c .before .before .before .before .before .before .before .before .before .before .before .before .before .args in
-    let needed = ap₂ _*_ (c .before .before .before .before .before .before .plan-of .ensures .groups-are) (c .before .before .before .before .before .row-bytes .ensures ∙ ap rowBytes (c .before .before .before .before .before .before .before .read-sizes .ensures .cells)) in
-    let v = passed (row-groups (a .file .now) (a .out .now)) refl (p .counted) (room-is (a .out .now) _ _ _ (c .before .before .before .once .ensures) needed) in
-    let r = groups-refused (a .file .now) (a .out .now) _ _ v (c .before .enum-told2 .given .1) in
+    let o = c .before .before .before in
+    let p = planned o in
+    let r = groups-refused (file p) (start p .args .out .now) _ _ (judged o) (c .before .enum-told2 .given .1) in
     (c .verdict-bits .ensures ∙ r .0, r .1)
 
 write-groups-requires : tie.Need-write-groups-requires
 write-groups-requires c κs =
-    let p = c .before .before .before .before .before .before .before .before .before .before .before .before .before .pre in
-    let room = ltb-false _ _ (once-off _ _ _ (c .before .before .before .once .ensures) (c .before .enum-told .given .1)) in
-    record { ready = p .ready; cells-are = c .before .before .before .before .before .before .before .read-sizes .ensures .cells; few = groups-few _ _ (p .ready .accepted) (c .before .before .before .before .before .before .plan-of .ensures); long = rw (← c .before .before .before .before .before .row-bytes .ensures) room }
+    let told = c .before .before in
+    let o = told .before .before in
+    let p = planned o in
+    let room = ltb-false _ _ (once-off _ _ _ (o .once .ensures) (told .enum-told .given .1)) in
+    record {
+      ready = start p .pre .ready;
+      cells-are = cells-are p;
+      few = groups-few _ _ (start p .pre .ready .accepted) (p .plan-of .ensures);
+      long = rw (← o .before .before .row-bytes .ensures) room;
+    }
+
+-- the place where the room was found, from where the rows were written
+abbrev found : tie.After-write-groups → tie.After-enum-told
+found c = c .before .before .before
+
+group-bits-requires : tie.Need-group-bits-requires
+group-bits-requires c κs =
+    let p = planned (found (c .before .before) .before .before) in
+    groups-few _ _ (start p .pre .ready .accepted) (p .plan-of .ensures)
 
 returns-2 : tie.Need-returns-2
 returns-2 c =
-    let p = c .before .before .before .before .before .before .before .before .before .before .before .before .before .before .before .before .before .pre in
-    let a = c .before .before .before .before .before .before .before .before .before .before .before .before .before .before .before .before .before .args in
-    let needed = ap₂ _*_ (c .before .before .before .before .before .before .before .before .before .before .plan-of .ensures .groups-are) (c .before .before .before .before .before .before .before .before .before .row-bytes .ensures ∙ ap rowBytes (c .before .before .before .before .before .before .before .before .before .before .before .read-sizes .ensures .cells)) in
-    let v = passed (row-groups (a .file .now) (a .out .now)) refl (p .counted) (room-is (a .out .now) _ _ _ (c .before .before .before .before .before .before .before .once .ensures) needed) in
-    let r = groups-accepted (a .file .now) (a .out .now) _ _ (sym v ∙ c .before .before .before .before .before .enum-told .given .1) (c .before .before .before .before .before .before .before .before .before .before .plan-of .ensures .groups-are) (c .before .before .before .write-groups .ensures) in
+    let w = c .before .before .before in
+    let told = found w in
+    let o = told .before .before in
+    let p = planned o in
+    let r = groups-accepted (file p) (start p .args .out .now) _ _ (sym (judged o) ∙ told .enum-told .given .1) (p .plan-of .ensures .groups-are) (w .write-groups .ensures) in
     (c .group-bits .ensures ∙ r .0, r .1)
 
 pub answer-groups-spec : {M : Type 1} → statement M
 answer-groups-spec =
     tie.close
-    (tie.spec (λ c κs. one-block _ (laid _ (shaped _ (c .before .before .before .before .before .pre .ready .by-control .checked)))) (λ c κs. c .before .before .before .before .before .before .pre .ready) row-bytes-requires mul-once (λ c κs. search needs) (λ c. search needs) (λ c. search needs) (λ c κs. search needs) returns write-groups-requires (λ c κs. groups-few _ _ (c .before .before .before .before .before .before .before .before .before .before .before .before .before .before .before .before .pre .ready .accepted) (c .before .before .before .before .before .before .before .before .before .plan-of .ensures)) (λ c. search needs) returns-2)
+    (tie.spec
+    (λ c κs. one-block _ (laid _ (shaped _ (c .before .before .pre .ready .by-control .checked))))
+    (λ c κs. c .before .before .before .before .pre .ready)
+    (λ c κs. let s = small c in omega arith)
+    mul-once
+    (λ c κs. search needs)
+    (λ c. search needs)
+    (λ c. search needs)
+    (λ c κs. search needs)
+    returns
+    write-groups-requires
+    group-bits-requires
+    (λ c. search needs)
+    returns-2)

@@ -1,73 +1,146 @@
 -- The number, the room, then the row.
-use mathlib.Core.Path.{refl, sym, _∙_, ap}
+use Prim.Native.Nat.{ℕ, _≤_, _<_}
+use mathlib.Core.Path.{_≡_, refl, sym, _∙_, ap}
+use mathlib.Core.List.{List}
 use native.Mathlib.Omega.{arith}
 use borrow.Author.Needs.{needs}
 use borrow.Author.Tests.{ltb-false, leb-false}
 use Rattle.rules.specs.Basics.{rowBytes}
-use Rattle.rules.specs.File.{boardOf}
+use Rattle.rules.specs.File.{boardOf, cellsOf}
+use Rattle.rules.specs.Vectors.{totalOf}
+use Rattle.rules.specs.Refusals.{judge, vectorChecks, mostCells}
 use Rattle.rules.proofs.Rows.{vector-group}
 use Rattle.rules.proofs.Shape.{laid, shaped, one-block}
 use Rattle.rules.proofs.Verdicts.{passed, stopped}
+use Rattle.chains.proofs.Walks.{cells-fit}
 use Rattle.plan.proofs.Planned.{small-plan, total-is, groups-low}
 use Rattle.rigcandle.proofs.Answering.{row-vector, row-number, vector-refused, vector-accepted, once-off, room-is, number-is}
 use Rattle.rigcandle.proofs.questions.answer_vector.Statement.{statement}
 use Rattle.rigcandle.proofs.questions.answer_vector.Tie as tie
 
+-- the places on the way: the plan was made, the number judged and known, the room judged
+abbrev start : tie.After-plan-of → tie.Start
+start c = c .before .before .before .before .before
+
+abbrev planned : tie.After-once → tie.After-plan-of
+planned c = c .before .before
+
+abbrev judged : tie.After-enum-told → tie.After-once
+judged c = c .before .before
+
+abbrev known : tie.After-once2 → tie.After-enum-told
+known c = c .before .before
+
+abbrev file : tie.After-plan-of → List ℕ
+file c = start c .args .file .now
+
+abbrev out : tie.After-plan-of → List ℕ
+out c = start c .args .out .now
+
+abbrev number : tie.After-plan-of → ℕ
+number c = start c .args .number
+
+cells-are : (c : tie.After-plan-of) → c .before .before .read-sizes .result .cells ≡ cellsOf (file c)
+cells-are c = c .before .before .read-sizes .ensures .cells
+
+small : (c : tie.After-plan-of) → c .before .before .read-sizes .result .cells ≤ mostCells
+small c =
+    let e = cells-are c in
+    let f = cells-fit _ (start c .pre .ready .by-control .checked) in
+    omega arith
+
+-- the total is the board's
+total-of : (c : tie.After-once) → c .before .total .result ≡ totalOf (boardOf (file (planned c)))
+total-of c = c .before .total .ensures ∙ total-is _ _ (planned c .plan-of .ensures)
+
+-- a known number is below it
+below : (c : tie.After-enum-told) → number (planned (judged c)) < totalOf (boardOf (file (planned (judged c))))
+below c =
+    let o = judged c in
+    rw (← total-of o) (leb-false _ _ (once-off _ _ _ (o .once .ensures) (c .enum-told .given .1)))
+
+-- what the room's check is
+verdict-is : (c : tie.After-once2) → c .once2 .result ≡ judge (vectorChecks (file (planned (judged (known c)))) (number (planned (judged (known c)))) (out (planned (judged (known c)))))
+verdict-is c =
+    let k = known c in
+    let o = judged k in
+    let p = planned o in
+    let number-check = number-is (number p) _ _ _ (o .once .ensures) (total-of o) in
+    let room = room-is (out p) _ _ _ (c .once2 .ensures) (c .before .row-bytes .ensures ∙ ap rowBytes (cells-are p)) in
+    passed (row-vector (file p) (out p) (number p)) refl (start p .pre .counted) (passed (row-number (file p) (out p) (number p)) number-check (k .enum-told .given .1) room)
+
 returns : tie.Need-returns
 returns c =
-    let p = c .before .before .before .before .before .before .before .before .before .before .before .before .pre in
-    let a = c .before .before .before .before .before .before .before .before .before .before .before .before .args in
-    let known = number-is (a .number) _ _ _ (c .before .before .before .once .ensures) (c .before .before .before .before .total .ensures ∙ total-is _ _ (c .before .before .before .before .before .plan-of .ensures)) in
-    let v = passed (row-vector (a .file .now) (a .out .now) (a .number)) refl (p .counted) (stopped (row-number (a .file .now) (a .out .now) (a .number)) known (c .before .enum-told2 .given .1)) in
-    let r = vector-refused (a .file .now) (a .out .now) (a .number) _ _ v (c .before .enum-told2 .given .1) in
+    let o = c .before .before .before in
+    let p = planned o in
+    let told = c .before .enum-told2 .given .1 in
+    let number-check = number-is (number p) _ _ _ (o .once .ensures) (total-of o) in
+    let v = passed (row-vector (file p) (out p) (number p)) refl (start p .pre .counted) (stopped (row-number (file p) (out p) (number p)) number-check told) in
+    let r = vector-refused (file p) (out p) (number p) _ _ v told in
     (c .verdict-bits .ensures ∙ r .0, r .1)
-
-row-bytes-requires : tie.Need-row-bytes-requires
-row-bytes-requires c κs =
-    let p = c .before .before .before .before .before .before .before .before .before .before .before .pre in
-    let e = c .before .before .before .before .before .read-sizes .ensures .cells in
-    let f = laid _ (shaped _ (p .ready .by-control .checked)) .cells .few in
-    omega arith
 
 returns-2 : tie.Need-returns-2
 returns-2 c =
-    let p = c .before .before .before .before .before .before .before .before .before .before .before .before .before .before .before .before .pre in
-    let a = c .before .before .before .before .before .before .before .before .before .before .before .before .before .before .before .before .args in
-    let known = number-is (a .number) _ _ _ (c .before .before .before .before .before .before .before .once .ensures) (c .before .before .before .before .before .before .before .before .total .ensures ∙ total-is _ _ (c .before .before .before .before .before .before .before .before .before .plan-of .ensures)) in
-    let room = room-is (a .out .now) _ _ _ (c .before .before .before .once2 .ensures) (c .before .before .before .before .row-bytes .ensures ∙ ap rowBytes (c .before .before .before .before .before .before .before .before .before .before .read-sizes .ensures .cells)) in
-    let v = passed (row-vector (a .file .now) (a .out .now) (a .number)) refl (p .counted) (passed (row-number (a .file .now) (a .out .now) (a .number)) known (c .before .before .before .before .before .enum-told .given .1) room) in
-    let r = vector-refused (a .file .now) (a .out .now) (a .number) _ _ v (c .before .enum-told4 .given .1) in
+    let o = c .before .before .before in
+    let p = planned (judged (known o)) in
+    let r = vector-refused (file p) (out p) (number p) _ _ (verdict-is o) (c .before .enum-told4 .given .1) in
     (c .verdict-bits2 .ensures ∙ r .0, r .1)
 
 write-vector-requires : tie.Need-write-vector-requires
 write-vector-requires c κs =
-    let p = c .before .before .before .before .before .before .before .before .before .before .before .before .before .before .before .before .pre in
-    let h = c .before .before .before .before .before .before .before .before .before .plan-of .ensures in
-    let room = ltb-false _ _ (once-off _ _ _ (c .before .before .before .once2 .ensures) (c .before .enum-told3 .given .1)) in
-    let known = leb-false _ _ (once-off _ _ _ (c .before .before .before .before .before .before .before .once .ensures) (c .before .before .before .before .before .enum-told .given .1)) in
-    record { ready = p .ready; cells-are = c .before .before .before .before .before .before .before .before .before .before .read-sizes .ensures .cells; planned = h; below = rw (← (c .before .before .before .before .before .before .before .before .total .ensures ∙ total-is _ _ h)) known; long = rw (← c .before .before .before .before .row-bytes .ensures) room }
+    let told = c .before .before in
+    let o = told .before .before in
+    let p = planned (judged (known o)) in
+    let room = ltb-false _ _ (once-off _ _ _ (o .once2 .ensures) (told .enum-told3 .given .1)) in
+    record {
+      ready = start p .pre .ready;
+      cells-are = cells-are p;
+      planned = p .plan-of .ensures;
+      below = below (known o);
+      long = rw (← o .before .row-bytes .ensures) room;
+    }
+
+-- the place where the room was judged, from where the row was written
+abbrev roomy : tie.After-write-vector → tie.After-once2
+roomy c = c .before .before .before .before .before
 
 group-bits-requires : tie.Need-group-bits-requires
 group-bits-requires c κs =
-    let p = c .before .before .before .before .before .before .before .before .before .before .before .before .before .before .before .before .before .before .before .pre in
-    let h = c .before .before .before .before .before .before .before .before .before .before .before .before .plan-of .ensures in
-    let known = leb-false _ _ (once-off _ _ _ (c .before .before .before .before .before .before .before .before .before .before .once .ensures) (c .before .before .before .before .before .before .before .before .enum-told .given .1)) in
-    let a = c .before .before .before .before .before .before .before .before .before .before .before .before .before .before .before .before .before .before .before .args in
-    let g = vector-group (boardOf (a .file .now)) (a .number) (rw (← (c .before .before .before .before .before .before .before .before .before .before .before .total .ensures ∙ total-is _ _ h)) known) .1 in
-    let l = groups-low _ (p .ready .accepted) in
-    omega (arith, c .before .before .write-vector .ensures .0)
+    let w = c .before .before in
+    let k = known (roomy w) in
+    let p = planned (judged k) in
+    let g = vector-group (boardOf (file p)) (number p) (below k) .1 in
+    let l = groups-low _ (start p .pre .ready .accepted) in
+    omega (arith, w .write-vector .ensures .0)
 
 returns-3 : tie.Need-returns-3
 returns-3 c =
-    let p = c .before .before .before .before .before .before .before .before .before .before .before .before .before .before .before .before .before .before .before .before .pre in
-    let a = c .before .before .before .before .before .before .before .before .before .before .before .before .before .before .before .before .before .before .before .before .args in
-    let known = number-is (a .number) _ _ _ (c .before .before .before .before .before .before .before .before .before .before .before .once .ensures) (c .before .before .before .before .before .before .before .before .before .before .before .before .total .ensures ∙ total-is _ _ (c .before .before .before .before .before .before .before .before .before .before .before .before .before .plan-of .ensures)) in
-    let room = room-is (a .out .now) _ _ _ (c .before .before .before .before .before .before .before .once2 .ensures) (c .before .before .before .before .before .before .before .before .row-bytes .ensures ∙ ap rowBytes (c .before .before .before .before .before .before .before .before .before .before .before .before .before .before .read-sizes .ensures .cells)) in
-    let v = passed (row-vector (a .file .now) (a .out .now) (a .number)) refl (p .counted) (passed (row-number (a .file .now) (a .out .now) (a .number)) known (c .before .before .before .before .before .before .before .before .before .enum-told .given .1) room) in
-    let r = vector-accepted (a .file .now) (a .out .now) (a .number) _ _ (sym v ∙ c .before .before .before .before .before .enum-told3 .given .1) (c .before .before .before .write-vector .ensures .0) (c .before .before .before .write-vector .ensures .1) in
+    let w = c .before .before .before in
+    let o = roomy w in
+    let p = planned (judged (known o)) in
+    let told = w .before .before .before in
+    let r = vector-accepted (file p) (out p) (number p) _ _ (sym (verdict-is o) ∙ told .enum-told3 .given .1) (w .write-vector .ensures .0) (w .write-vector .ensures .1 .0) in
     (c .group-bits .ensures ∙ r .0, r .1)
 
 pub answer-vector-spec : {M : Type 1} → statement M
 answer-vector-spec =
     tie.close
-    (tie.spec (λ c κs. one-block _ (laid _ (shaped _ (c .before .before .before .before .before .pre .ready .by-control .checked)))) (λ c κs. c .before .before .before .before .before .before .pre .ready) (λ c κs. small-plan _ (c .before .before .before .before .before .before .before .pre .ready .accepted) _ (c .plan-of .ensures)) (λ c κs. search needs) (λ c. search needs) (λ c. search needs) (λ c κs. search needs) returns row-bytes-requires (λ c κs. search needs) (λ c. search needs) (λ c. search needs) (λ c κs. search needs) returns-2 write-vector-requires group-bits-requires (λ c. search needs) returns-3)
+    (tie.spec
+    (λ c κs. one-block _ (laid _ (shaped _ (c .before .before .pre .ready .by-control .checked))))
+    (λ c κs. c .before .before .before .before .pre .ready)
+    (λ c κs. small-plan _ (start c .pre .ready .accepted) _ (c .plan-of .ensures))
+    (λ c κs. search needs)
+    (λ c. search needs)
+    (λ c. search needs)
+    (λ c κs. search needs)
+    returns
+    (λ c κs. let s = small (planned (judged c)) in omega arith)
+    (λ c κs. search needs)
+    (λ c. search needs)
+    (λ c. search needs)
+    (λ c κs. search needs)
+    returns-2
+    write-vector-requires
+    group-bits-requires
+    (λ c. search needs)
+    returns-3)

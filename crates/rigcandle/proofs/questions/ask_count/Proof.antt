@@ -1,21 +1,37 @@
--- The verdict on the board and its plan, then the answer.
-use mathlib.Core.Path.{_∙_}
+-- The plan has all three numbers.
+use mathlib.Core.Path.{_≡_, refl, sym, _∙_}
 use borrow.Author.Needs.{needs}
-use Rattle.plan.proofs.Planned.{admitted}
-use Rattle.rigcandle.proofs.Answering.{count-refused}
+use Rattle.rules.specs.File.{boardOf}
+use Rattle.rules.specs.Refusals.{judge, countChecks}
+use Rattle.rules.specs.declared.Verdict.the-variants.{Accepted}
+use Rattle.plan.specs.Planning.{PlanOf}
+use Rattle.plan.proofs.Planned.{small-plan, total-is, board-accepted}
+use Rattle.rigcandle.proofs.Answering.{count-accepted, count-refused}
+use Rattle.rigcandle.proofs.Bounds.{vectors-low, groups-few, wide-few}
 use Rattle.rigcandle.proofs.questions.ask_count.Statement.{statement}
 use Rattle.rigcandle.proofs.questions.ask_count.Tie as tie
 
+abbrev start : tie.After-make-plan → tie.Start
+start c = c .before .before
+
+-- the board is admitted, and the plan its own
+made : (c : tie.After-known-told) → (judge (countChecks (start (c .before .before .before) .args .file .now)) ≡ Accepted) × PlanOf (boardOf (start (c .before .before .before) .args .file .now)) (c .before .answer .given .0 .0)
+made c = c .before .before .before .make-plan .ensures .made _ (c .before .answer .given .1)
+
 returns : tie.Need-returns
 returns c =
-    c .verdict-bits .ensures ∙ count-refused _ _ _ (c .before .before .before .before .before .before .before .before .before .before .before .before .before .admit .ensures .0) (c .before .enum-told2 .given .1)
-
-answer-count-requires : tie.Need-answer-count-requires
-answer-count-requires c κs =
-    let v = c .before .before .before .before .before .before .before .before .before .before .before .before .before .before .before .admit .ensures in
-    admitted _ _ _ _ _ _ _ (v .0) (c .before .before .before .enum-told .given .1) (v .1)
+    let m = made (c .before .before) in
+    c .count-bits .ensures ∙ count-accepted _ _ _ _ (m .0) (m .1 .groups-are) (m .1 .wide-are) (c .before .total .ensures ∙ total-is _ _ (m .1))
 
 pub ask-count-spec : {M : Type 1} → statement M
 ask-count-spec =
     tie.close
-    (tie.spec (λ c κs. search needs) (λ c. search needs) (λ c. search needs) (λ c κs. search needs) (λ c. search needs) (λ c. search needs) (λ c. search needs) (λ c. search needs) (λ c. search needs) returns answer-count-requires (λ c. search needs) (λ c. search needs) (λ c. search needs) (λ c. search needs) (λ c. search needs) (λ c. search needs))
+    (tie.spec
+    (λ c κs. search needs)
+    (λ c. search needs)
+    (λ c κs. let m = made c in small-plan _ (board-accepted _ (m .0)) _ (m .1))
+    (λ c κs. let m = made (c .before) in let ok = board-accepted _ (m .0) in (groups-few _ _ ok (m .1), wide-few _ _ ok (m .1), vectors-low _ _ _ (m .0) (m .1) (c .total .ensures)))
+    (λ c. search needs)
+    (λ c κs. search needs)
+    returns
+    (λ c. let a = c .before .before in c .verdict-bits .ensures ∙ count-refused _ _ _ (sym (a .before .before .make-plan .ensures .refused _ (a .answer2 .given .1))) refl))

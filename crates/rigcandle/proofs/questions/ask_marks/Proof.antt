@@ -1,25 +1,37 @@
--- The verdict on the board and its plan, then the answer.
-use mathlib.Core.Path.{_∙_}
+-- The plan or a refusal, then the answer.
+use mathlib.Core.Path.{refl, sym, _∙_}
 use borrow.Author.Needs.{needs}
 use Rattle.rules.proofs.Verdicts.{stopped}
-use Rattle.plan.proofs.Planned.{admitted}
 use Rattle.rigcandle.proofs.Answering.{row-marks, marks-refused}
 use Rattle.rigcandle.proofs.questions.ask_marks.Statement.{statement}
 use Rattle.rigcandle.proofs.questions.ask_marks.Tie as tie
 
-returns : tie.Need-returns
-returns c =
-    let a = c .before .before .before .before .before .before .before .before .before .before .before .before .before .before .before .before .before .before .before .before .before .before .before .before .before .before .before .before .args in
-    let told = c .before .enum-told2 .given .1 in
-    let r = marks-refused (a .file .now) (a .out .now) (a .capture .now) _ _ (stopped (row-marks (a .file .now) (a .out .now) (a .capture .now)) (c .before .before .before .before .before .before .before .before .before .before .before .before .before .admit .ensures .0) told) told in
+abbrev start : tie.After-make-plan → tie.Start
+start c = c .before .before .before .before
+
+returns-2 : tie.Need-returns-2
+returns-2 c =
+    let told = c .before .before in
+    let m = told .before .before in
+    let a = start m .args in
+    let e = sym (m .make-plan .ensures .refused _ (told .answer2 .given .1)) in
+    let r = marks-refused (a .file .now) (a .out .now) (a .capture .now) _ _ (stopped (row-marks (a .file .now) (a .out .now) (a .capture .now)) e refl) refl in
     (c .verdict-bits .ensures ∙ r .0, r .1)
 
 answer-marks-requires : tie.Need-answer-marks-requires
 answer-marks-requires c κs =
-    let v = c .before .before .before .before .before .before .before .before .before .before .before .before .before .before .before .before .before .admit .ensures in
-    (admitted _ _ _ _ _ _ _ (v .0) (c .before .before .before .before .before .enum-told .given .1) (v .1), c .before .before .before .before .before .before .before .before .before .before .before .before .before .before .before .before .before .before .before .before .before .before .before .before .before .before .before .before .before .before .before .before .pre .1)
+    let told = c .before .before in
+    told .before .before .make-plan .ensures .made _ (told .answer .given .1)
 
 pub ask-marks-spec : {M : Type 1} → statement M
 ask-marks-spec =
     tie.close
-    (tie.spec (λ c κs. search needs) (λ c. search needs) (λ c. search needs) (λ c κs. search needs) (λ c. search needs) (λ c. search needs) (λ c. search needs) (λ c. search needs) (λ c. search needs) returns answer-marks-requires (λ c. search needs) (λ c. search needs) (λ c. search needs) (λ c. search needs) (λ c. search needs) (λ c. search needs) (λ c. search needs) (λ c. search needs))
+    (tie.spec
+    (λ c κs. search needs)
+    (λ c. search needs)
+    answer-marks-requires
+    (λ c. search needs)
+    (λ c κs. search needs)
+    (λ c. search needs)
+    (λ c. search needs)
+    returns-2)

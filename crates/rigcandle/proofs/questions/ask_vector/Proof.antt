@@ -1,25 +1,37 @@
--- The verdict on the board and its plan, then the answer.
-use mathlib.Core.Path.{_∙_}
+-- Refusals 1 to 12, then the answer.
+use mathlib.Core.Path.{sym, _∙_}
 use borrow.Author.Needs.{needs}
 use Rattle.rules.proofs.Verdicts.{stopped}
-use Rattle.plan.proofs.Planned.{admitted}
 use Rattle.rigcandle.proofs.Answering.{row-vector, vector-refused}
 use Rattle.rigcandle.proofs.questions.ask_vector.Statement.{statement}
 use Rattle.rigcandle.proofs.questions.ask_vector.Tie as tie
 
+abbrev start : tie.After-admit → tie.Start
+start c = c .before .before .before .before
+
 returns : tie.Need-returns
 returns c =
-    let a = c .before .before .before .before .before .before .before .before .before .before .before .before .before .before .before .before .before .before .before .before .before .before .before .before .before .before .args in
+    let v = c .before .before .before in
+    let a = start v .args in
     let told = c .before .enum-told2 .given .1 in
-    let r = vector-refused (a .file .now) (a .out .now) (a .number) _ _ (stopped (row-vector (a .file .now) (a .out .now) (a .number)) (c .before .before .before .before .before .before .before .before .before .before .before .before .before .admit .ensures .0) told) told in
+    let r = vector-refused (a .file .now) (a .out .now) (a .number) _ _ (stopped (row-vector (a .file .now) (a .out .now) (a .number)) (v .admit .ensures .0) told) told in
     (c .verdict-bits .ensures ∙ r .0, r .1)
 
 answer-vector-requires : tie.Need-answer-vector-requires
 answer-vector-requires c κs =
-    let v = c .before .before .before .before .before .before .before .before .before .before .before .before .before .before .before .before .admit .ensures in
-    admitted _ _ _ _ _ _ _ (v .0) (c .before .before .before .before .enum-told .given .1) (v .1)
+    let told = c .before .before in
+    let v = told .before .before .admit .ensures in
+    v .1 (sym (v .0) ∙ told .enum-told .given .1)
 
 pub ask-vector-spec : {M : Type 1} → statement M
 ask-vector-spec =
     tie.close
-    (tie.spec (λ c κs. search needs) (λ c. search needs) (λ c. search needs) (λ c κs. search needs) (λ c. search needs) (λ c. search needs) (λ c. search needs) (λ c. search needs) (λ c. search needs) returns answer-vector-requires (λ c. search needs) (λ c. search needs) (λ c. search needs) (λ c. search needs) (λ c. search needs) (λ c. search needs) (λ c. search needs))
+    (tie.spec
+    (λ c κs. c .before .before .before .pre)
+    (λ c. search needs)
+    (λ c. search needs)
+    (λ c κs. search needs)
+    returns
+    answer-vector-requires
+    (λ c. search needs)
+    (λ c. search needs))

@@ -1,17 +1,22 @@
--- The function's own table has room for the highest drivers.
+-- The highest drivers are put into the table's spare room, and the rows written by them.
 use borrow.Author.Needs.{needs}
-use Rattle.chains.proofs.Blanks.{blank}
-use Rattle.select.specs.Highest.{mostHighest}
-use Rattle.select.proofs.Highest.{heads-of}
 use Rattle.rows.proofs.groups.write_groups.Statement.{statement}
 use Rattle.rows.proofs.groups.write_groups.Tie as tie
 
-fill-order-requires : tie.Need-fill-order-requires
-fill-order-requires c κs =
-    let p = c .before .before .before .before .before .before .pre in
-    (heads-of _ _ _ _ (p .ready), (p .cells-are, blank mostHighest))
+abbrev start : tie.After-fill-order → tie.Start
+start c = c .before .before .before .before
+
+write-rows-requires : tie.Need-write-rows-requires
+write-rows-requires c κs =
+    let o = c .before .before in
+    let p = start o .pre in
+    (record { ready = o .fill-order .ensures .ready; cells-are = p .cells-are; few = p .few; long = p .long }, o .fill-order .ensures)
 
 pub write-groups-spec : {M : Type 1} → statement M
 write-groups-spec =
     tie.close
-    (tie.spec (λ c. search needs) fill-order-requires (λ c. search needs) (λ c κs. (c .before .before .before .before .before .before .before .before .before .before .pre, c .before .before .before .fill-order .ensures)) (λ c. search needs) (λ c. search needs))
+    (tie.spec
+    (λ c κs. let p = c .before .before .before .pre in (p .ready, p .cells-are))
+    write-rows-requires
+    (λ c. search needs)
+    (λ c. search needs))

@@ -7,11 +7,18 @@ use Rattle.select.proofs.groups.selected.Tie as tie
 
 returns : tie.Need-returns
 returns c used e =
-    let none = holds-none _ _ (c .before .before .before .before .empty .ensures) (c .before .before .before .empty2 .ensures) in
-    let first = c .before .before .run-pass .ensures _ none in
-    selected-is _ _ used _ _ _ e (board-size _ _ refl) (c .before .run-pass2 .ensures _ first)
+    let second = c .before in
+    let first = second .before in
+    let nets = first .before in
+    let none = holds-none _ _ (nets .before .empty .ensures) (nets .empty2 .ensures) in
+    selected-is _ _ used _ _ _ e (board-size _ _ refl) (second .run-pass2 .ensures _ (first .run-pass .ensures _ none))
 
 pub selected-spec : {M : Type 1} → statement M
 selected-spec =
     tie.close
-    (tie.spec (λ c κs. search needs) (λ c κs. search needs) (λ c κs. c .before .before .before .before .before .before .before .pre) (λ c κs. c .before .before .before .before .before .before .before .before .pre) returns)
+    (tie.spec
+    (λ c κs. search needs)
+    (λ c κs. search needs)
+    (λ c κs. c .before .before .before .pre)
+    (λ c κs. c .before .before .before .before .pre)
+    returns)
