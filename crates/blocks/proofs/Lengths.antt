@@ -1,4 +1,4 @@
--- What refusal 1 leaves of a file's length, and that a number of two bytes is below 65,536.
+-- What refusal 1 leaves of a file's length, and how large a number of two bytes is at most.
 use Prim.Native.Nat.{ℕ, _+_, _*_, _/_, _%_, _≤_, _<_}
 use mathlib.Core.Path.{_≡_}
 use mathlib.Core.Bool.{false, not, _||_}
@@ -7,7 +7,7 @@ use native.Mathlib.Omega.{arith}
 use borrow.Author.Tests.{eqb-true, eqb-false, ltb-false}
 use lib.Dec.{eqb}
 use lib.ListN.{length, getD}
-use Rattle.rules.specs.File.{blockSize, blockRecords, byteAt, numberAt, cellsOf, recordsIn}
+use Rattle.rules.specs.File.{blockSize, blockRecords, byteValues, mostNumber, byteAt, numberAt, cellsOf, recordsIn}
 use Rattle.rules.specs.Refusals.{mostBlocks, wrongLength}
 use Rattle.rules.proofs.Tests.{or-neither, passes-not}
 
@@ -28,12 +28,12 @@ right-length file h =
     record { some = omega arith; whole = omega arith; few = omega arith }
 
 -- "numbers little-endian", two bytes
-pub number-low : (file : List ℕ) (i : ℕ) → ((j : ℕ) → getD file j 0 < 256) → numberAt file i < 65536
+pub number-low : (file : List ℕ) (i : ℕ) → ((j : ℕ) → getD file j 0 < byteValues) → numberAt file i ≤ mostNumber
 unfolding numberAt byteAt
 number-low file i h = omega (arith, h i, h (i + 1))
 
 -- so C is one too, and no block has more than 84 records
-pub cells-low : (file : List ℕ) → ((j : ℕ) → getD file j 0 < 256) → cellsOf file < 65536
+pub cells-low : (file : List ℕ) → ((j : ℕ) → getD file j 0 < byteValues) → cellsOf file ≤ mostNumber
 unfolding cellsOf
 cells-low file h = number-low file 10 h
 

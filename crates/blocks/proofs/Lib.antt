@@ -4,3 +4,5 @@ pub mod Adding
 pub mod Ranges
 pub mod Lengths
 pub mod Opening
+pub mod Heading
+pub mod Shaping

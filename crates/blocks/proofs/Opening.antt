@@ -6,13 +6,14 @@ use mathlib.Core.Bool.{Bool, true, false, not, cond}
 use mathlib.Core.List.{List}
 use native.Mathlib.Omega.{arith}
 use Rattle.rules.specs.File.{sumsRight}
-use Rattle.rules.specs.Refusals.{refuse}
+use Rattle.rules.specs.Refusals.{numbered}
 use Rattle.rules.specs.declared.Refusal.{Refusal}
 use Rattle.rules.proofs.Tests.{fails-not}
-use Rattle.blocks.specs.Reading.{blockOf, verdictOf}
+use Rattle.blocks.specs.Reading.{headOf, blockOf, stoppedAt}
 use Rattle.blocks.specs.declared.Head.{Head}
 use Rattle.blocks.specs.declared.Block.{Block}
 use Rattle.blocks.specs.declared.Block.the-variants.{Holds, Refused}
+use Rattle.blocks.specs.declared.Blocks.the-variants.{Refused as RefusedAll}
 
 passed : (right : Bool) (h head : Head) (r : Refusal) → cond right (Holds h) (Refused r) ≡ Holds head → not right ≡ false
 passed true h head r e = refl
@@ -22,6 +23,10 @@ failed : (right : Bool) (h : Head) (r s : Refusal) → cond right (Holds h) (Ref
 failed true h r s e = absurd (let z : _≡_ {A = ℕ} 0 1 = cc in omega arith)
 failed false h r s e = refl
 
+own : (right : Bool) (h head : Head) (r : Refusal) → cond right (Holds h) (Refused r) ≡ Holds head → head ≡ h
+own true h head r e = cc
+own false h head r e = absurd (let z : _≡_ {A = ℕ} 0 1 = cc in omega arith)
+
 pub held : (file : List ℕ) (i : ℕ) {block : Block} {head : Head} → block ≡ blockOf file i → block ≡ Holds head → not (sumsRight file i) ≡ false
 unfolding blockOf
 held file i r e = passed (sumsRight file i) _ _ _ (sym r ∙ e)
@@ -30,7 +35,12 @@ pub refused : (file : List ℕ) (i : ℕ) {block : Block} {s : Refusal} → bloc
 unfolding blockOf
 refused file i r e = failed (sumsRight file i) _ _ _ (sym r ∙ e)
 
--- and then its verdict is refusal 2, at its own place
-pub given : (file : List ℕ) (i : ℕ) → not (sumsRight file i) ≡ true → verdictOf (blockOf file i) ≡ refuse 2 i
-unfolding blockOf verdictOf
+-- a block that holds something holds its own head
+pub held-head : (file : List ℕ) (i : ℕ) {block : Block} {head : Head} → block ≡ blockOf file i → block ≡ Holds head → head ≡ headOf file i
+unfolding blockOf
+held-head file i r e = own (sumsRight file i) _ _ _ (sym r ∙ e)
+
+-- and one that is refused stops the reading of all with refusal 2, at its own place
+pub given : (file : List ℕ) (i : ℕ) → not (sumsRight file i) ≡ true → stoppedAt (blockOf file i) ≡ RefusedAll (numbered 2 i)
+unfolding blockOf stoppedAt
 given file i h = rw (fails-not (sumsRight file i) h)

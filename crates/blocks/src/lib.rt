@@ -6,31 +6,24 @@ ghost use mathlib.Core.Bool.{false, not};
 ghost use mathlib.Core.List.{[], _∷_};
 ghost use Prim.Native.Nat.{_+_, _*_, _^_, _≤_, _<_};
 ghost use lib.ListN.{length};
-ghost use Rattle.rules.specs.File.{blockSize, blockRecords, headSize, numberAt, mostNumber, sumsOf, sumsRight, zeros, headRight, headerRight, recordsIn, cellBlockRight, blocksIn};
-ghost use Rattle.rules.specs.Refusals.{judge, once, each, wrongLength, within, outside, blocksFor, blockWrong};
-ghost use Rattle.blocks.specs.Reading.{headOf, blockOf, signatureRight, verdictOf, SizesOf};
-ghost use Rattle.blocks.specs.Places.{Whole, CellBlock, AnyBlock, Layout};
+ghost use Rattle.rules.specs.File.{blockSize, blockRecords, headSize, numberAt, mostNumber, sumsOf, sumsRight, zeros, headerRight, recordsIn, cellBlockRight, blocksIn};
+ghost use Rattle.rules.specs.Refusals.{judge, once, each, wrongLength, within, outside, blocksFor, blockWrong, shapeChecks};
+ghost use Rattle.blocks.specs.Reading.{headOf, headIs, headLaid, moreRight, blockOf, stoppedAt, BlocksOf, verdictOf, signatureRight, SizesOf};
+ghost use Rattle.blocks.specs.Places.{Whole, Headed, CellBlock, AnyBlock, Layout};
+use rules::BLOCK_RECORDS;
+use rules::BLOCK_SIZE;
+use rules::HEAD_SIZE;
+use rules::MOST_BLOCKS;
+use rules::MOST_LIMIT;
+use rules::RECORD_SIZE;
+use rules::SUMMED;
 
-// "Blocks of 512 bytes", the first 508 of them summed.
-pub const BLOCK_SIZE: usize = 512;
+// The two limits that later crates take from here.
+use rules::MOST_CELLS;
+use rules::MOST_NETS;
 
-pub const SUMMED: usize = 508;
-
-// "up to 84 cell records of 6 bytes from byte 4".
-pub const BLOCK_RECORDS: usize = 84;
-
-pub const RECORD_SIZE: usize = 6;
-
-pub const HEAD_SIZE: usize = 4;
-
-// The limits: blocks of a file, cells, nets, SSOL.
-pub const MOST_BLOCKS: usize = 14;
-
-pub const MOST_CELLS: usize = 1024;
-
-pub const MOST_NETS: usize = 256;
-
-pub const MOST_LIMIT: usize = 1024;
+// The second byte of a number counts so often.
+const BYTE_VALUES: u16 = rules::BYTE_VALUES as u16;
 
 // The first four bytes of a block: its number, its kind, its record count.
 pub struct Head {
@@ -42,6 +35,17 @@ pub struct Head {
 // "Reading a block gives either its contents or a refusal with its place".
 pub enum Block {
     Holds(Head),
+    Refused(rules::Refusal),
+}
+
+// What all blocks together leave for checks 3 and 5: so many, from block 0 on, have the head that the layout gives them.
+struct Heads {
+    right: usize,
+}
+
+// Reading all blocks gives either this or the refusal of the lowest block that is refused.
+enum Blocks {
+    Hold(Heads),
     Refused(rules::Refusal),
 }
 
@@ -57,7 +61,7 @@ pub fn pair(file: &[u8], at: usize) -> u16
     requires { ⌜ at + 1 < length (now file) ⌝ }
     ensures { λ r. ⌜ r ≡ numberAt (now (file .entry)) at ⌝ }
 {
-    file[at] as u16 + 256 * (file[at + 1] as u16)
+    file[at] as u16 + BYTE_VALUES * (file[at + 1] as u16)
 }
 
 // The same, for sums with lengths and positions.
@@ -138,23 +142,11 @@ fn read(file: &[u8], i: usize) -> Block
     }
 }
 
-// What a block answers to the question whether it is refused.
-fn verdict(block: Block) -> rules::Verdict
-    ensures { λ r. ⌜ r ≡ verdictOf block ⌝ }
+// A head of this number, this kind and this count.
+fn head_is(head: Head, number: usize, kind: usize, records: usize) -> bool
+    ensures { λ r. ⌜ r ≡ headIs head number kind records ⌝ }
 {
-    match block {
-        Block::Holds(_) => rules::Verdict::Accepted,
-        Block::Refused(refusal) => rules::Verdict::Refused(refusal),
-    }
-}
-
-// The head of block i has its own number, this kind and this count.
-fn head_right(file: &[u8], i: usize, kind: usize, records: usize) -> bool
-    requires { ⌜ blockSize * i + headSize ≤ length (now file) ⌝ }
-    ensures { λ r. ⌜ r ≡ headRight (now (file .entry)) i kind records ⌝ }
-{
-    let h = read_head(file, i);
-    h.number as usize == i && h.kind as usize == kind && h.records as usize == records
+    head.number as usize == number && head.kind as usize == kind && head.records as usize == records
 }
 
 // Bytes 4 to 9 of the header: "BSIN", version 1, and a zero.
@@ -171,11 +163,11 @@ fn signature_right(file: &[u8]) -> bool
 }
 
 // Block 0 is a header as the layout has it, whatever its C, N and SSOL.
-fn header_right(file: &[u8]) -> bool
-    requires { ⌜ blockSize ≤ length (now file) ⌝ }
+fn header_right(file: &[u8], heads: Heads) -> bool
+    requires { ⌜ Headed (now file) heads ⌝ }
     ensures { λ r. ⌜ r ≡ headerRight (now (file .entry)) ⌝ }
 {
-    head_right(file, 0, 1, 0) && signature_right(file) && zeros(file, 16, SUMMED)
+    0 < heads.right && signature_right(file) && zeros(file, 16, SUMMED)
 }
 
 // C, N and SSOL, as the header has them.
@@ -206,15 +198,70 @@ fn records_in(cells: usize, i: usize) -> usize
     }
 }
 
-// Cell block i is as the layout has it, outside its records.
-fn cell_block_right(file: &[u8], cells: usize, i: usize) -> bool
-    requires { ⌜ CellBlock (now file) cells i ⌝ }
+// The head is the one that the layout gives block i of a file of so many cells: kind 1 and no records at 0,
+// else kind 2 and as many records as are left for it.
+fn head_laid(head: Head, cells: usize, i: usize) -> bool
+    requires { ⌜ blockRecords * i < 2 ^ 64 ⌝ }
+    ensures { λ r. ⌜ r ≡ headLaid head cells i ⌝ }
+{
+    if i == 0 {
+        return head_is(head, 0, 1, 0);
+    }
+    head_is(head, i, 2, records_in(cells, i))
+}
+
+// So many blocks, from 0 on, have their heads, after block i as well.
+fn more_right(right: usize, i: usize, laid: bool) -> usize
+    requires { ⌜ i < mostNumber ⌝ }
+    ensures { λ r. ⌜ r ≡ moreRight right i laid ⌝ }
+{
+    if laid {
+        if right == i {
+            return i + 1;
+        }
+    }
+    right
+}
+
+// Reading all blocks stops at one that is refused.
+fn stopped(block: Block) -> Blocks
+    ensures { λ r. ⌜ r ≡ stoppedAt block ⌝ }
+{
+    match block {
+        Block::Holds(_) => Blocks::Hold(Heads { right: 0 }),
+        Block::Refused(refusal) => Blocks::Refused(refusal),
+    }
+}
+
+// All blocks: how many heads are right from block 0 on, or refusal 2 of the lowest block whose sums are wrong.
+fn read_blocks(file: &[u8]) -> Blocks
+    requires { ⌜ wrongLength (now file) ≡ false ⌝ }
+    ensures { λ r. ⌜ BlocksOf (now (file .entry)) r ⌝ }
+{
+    let cells = number(file, 10);
+    let blocks = file.len() / BLOCK_SIZE;
+    let mut right = 0;
+    let mut i = 0;
+    while i < blocks {
+        let block = read(file, i);
+        let Block::Holds(head) = block else {
+            return stopped(block);
+        };
+        right = more_right(right, i, head_laid(head, cells, i));
+        i += 1;
+    }
+    Blocks::Hold(Heads { right })
+}
+
+// Cell block i is as the layout has it, outside its records: its head is, and the rest is zero.
+fn cell_block_right(file: &[u8], cells: usize, i: usize, headed: bool) -> bool
+    requires { ⌜ CellBlock (now file) cells i headed ⌝ }
     ensures { λ r. ⌜ r ≡ cellBlockRight (now (file .entry)) i ⌝ }
 {
     let records = records_in(cells, i);
     let from = BLOCK_SIZE * i;
     let past = from + HEAD_SIZE + RECORD_SIZE * records;
-    head_right(file, i, 2, records) && zeros(file, past, from + SUMMED)
+    headed && zeros(file, past, from + SUMMED)
 }
 
 // How many blocks a file of so many cells has.
@@ -226,14 +273,14 @@ fn blocks_for(cells: usize) -> usize
 }
 
 // Refusal 5 applies at block i: the number of blocks at 0, else the block's layout.
-fn block_wrong(file: &[u8], cells: usize, i: usize) -> bool
-    requires { ⌜ AnyBlock (now file) cells i ⌝ }
+fn block_wrong(file: &[u8], cells: usize, i: usize, headed: bool) -> bool
+    requires { ⌜ AnyBlock (now file) cells i headed ⌝ }
     ensures { λ r. ⌜ r ≡ blockWrong (now (file .entry)) i ⌝ }
 {
     if i == 0 {
         return file.len() / BLOCK_SIZE != blocks_for(cells);
     }
-    !cell_block_right(file, cells, i)
+    !cell_block_right(file, cells, i, headed)
 }
 
 // Refusal 1 applies: the file is empty, not a multiple of 512, or over 14 blocks.
@@ -263,35 +310,28 @@ fn outside(file: &[u8]) -> bool
 }
 
 // Refusal 1, the file's length.
-pub fn length_verdict(file: &[u8]) -> rules::Verdict
+fn length_verdict(file: &[u8]) -> rules::Verdict
     ensures { λ r. ⌜ r ≡ judge (once 1 (wrongLength (now (file .entry))) ∷ []) ⌝ }
 {
     rules::once(1, wrong_length(file))
 }
 
-// Refusal 2, the blocks' sums: the lowest block that is refused, as reading it says.
-pub fn sums_verdict(file: &[u8]) -> rules::Verdict
-    requires { ⌜ wrongLength (now file) ≡ false ⌝ }
-    ensures { λ r. ⌜ r ≡ judge (each 2 (blocksIn (now (file .entry))) (λ i. not (sumsRight (now (file .entry)) i)) ∷ []) ⌝ }
+// Refusal 2, the blocks' sums: as reading them all says.
+fn sums_verdict(blocks: Blocks) -> rules::Verdict
+    ensures { λ r. ⌜ r ≡ verdictOf blocks ⌝ }
 {
-    let blocks = file.len() / BLOCK_SIZE;
-    let mut i = 0;
-    while i < blocks {
-        let block = read(file, i);
-        let Block::Holds(_) = block else {
-            return verdict(block);
-        };
-        i += 1;
+    match blocks {
+        Blocks::Hold(_) => rules::Verdict::Accepted,
+        Blocks::Refused(refusal) => rules::Verdict::Refused(refusal),
     }
-    rules::Verdict::Accepted
 }
 
 // Refusals 3 and 4, the header.
-pub fn header_verdict(file: &[u8]) -> rules::Verdict
-    requires { ⌜ wrongLength (now file) ≡ false ⌝ }
+fn header_verdict(file: &[u8], heads: Heads) -> rules::Verdict
+    requires { ⌜ Headed (now file) heads ⌝ }
     ensures { λ r. ⌜ r ≡ judge (once 3 (not (headerRight (now (file .entry)))) ∷ once 4 (outside (now (file .entry))) ∷ []) ⌝ }
 {
-    if header_right(file) {
+    if header_right(file, heads) {
         rules::once(4, outside(file))
     } else {
         rules::refuse(3, 0)
@@ -299,17 +339,38 @@ pub fn header_verdict(file: &[u8]) -> rules::Verdict
 }
 
 // Refusal 5, the number of blocks and the layout of the cell blocks: the lowest block.
-pub fn layout_verdict(file: &[u8], cells: usize) -> rules::Verdict
-    requires { ⌜ Layout (now file) cells ⌝ }
+fn layout_verdict(file: &[u8], cells: usize, heads: Heads) -> rules::Verdict
+    requires { ⌜ Layout (now file) cells heads ⌝ }
     ensures { λ r. ⌜ r ≡ judge (each 5 (blocksIn (now (file .entry))) (blockWrong (now (file .entry))) ∷ []) ⌝ }
 {
     let blocks = file.len() / BLOCK_SIZE;
     let mut i = 0;
     while i < blocks {
-        if block_wrong(file, cells, i) {
+        if block_wrong(file, cells, i, i < heads.right) {
             return rules::refuse(5, i);
         }
         i += 1;
     }
     rules::Verdict::Accepted
+}
+
+// Refusals 1 to 5, the file's shape, in their order. Each block is read once, by check 2; what it holds of its head goes on to
+// checks 3 and 5.
+pub fn shape_verdict(file: &[u8]) -> rules::Verdict
+    ensures { λ r. ⌜ r ≡ judge (shapeChecks (now (file .entry))) ⌝ }
+{
+    let length = length_verdict(file);
+    let rules::Verdict::Accepted = length else {
+        return length;
+    };
+    let blocks = read_blocks(file);
+    let Blocks::Hold(heads) = blocks else {
+        return sums_verdict(blocks);
+    };
+    let header = header_verdict(file, heads);
+    let rules::Verdict::Accepted = header else {
+        return header;
+    };
+    let sizes = read_sizes(file);
+    layout_verdict(file, sizes.cells, heads)
 }

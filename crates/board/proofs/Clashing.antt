@@ -1,9 +1,9 @@
 -- Refusal 8 by one walk along a net's outputs, from the highest down: one that is always on clashes with every other, and two of one control
 -- cell clash; where neither is met, none do.
-use Prim.Native.Nat.{ℕ, _+_, _-_, _<_, _≤_}
+use Prim.Native.Nat.{ℕ, _-_, _<_, _≤_}
 use mathlib.Core.Path.{_≡_, refl, sym, _∙_, ap}
-use mathlib.Core.Logic.{_⊎_, inl, inr, ⊎-elim}
-use mathlib.Core.Bool.{Bool, true, false, not, _&&_, _||_, false≢true}
+use mathlib.Core.Logic.{_⊎_, ⊎-elim}
+use mathlib.Core.Bool.{Bool, true, false, not, _&&_, _||_}
 use mathlib.Core.List.{List}
 use native.Mathlib.Omega.{arith}
 use borrow.Author.Tests.{eqb-true, eqb-false, eq-eqb, ne-eqb}
@@ -17,7 +17,7 @@ use Rattle.rules.specs.declared.Driver.the-variants.{Of, Nothing}
 use Rattle.rules.proofs.Tests.{decided, left, right, both, or-left, or-right, or-cases, not-fails, fails-not, fails-if, clashes, order, any-at, none-any}
 use Rattle.rules.proofs.Driving.{kinds-differ}
 use Rattle.rules.proofs.DriverLaws.{is-driver, no-driver}
-use Rattle.words.specs.Sets.{plus, nothing}
+use Rattle.words.specs.Sets.{plus}
 use Rattle.chains.specs.Table.{NetOf, room, headIn, linkIn}
 use Rattle.chains.specs.Chains.{last, keyed, Chains}
 use Rattle.chains.proofs.Chaining.{last-le, last-member, last-above, last-again, keyed-net}

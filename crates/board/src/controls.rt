@@ -13,7 +13,7 @@ ghost use Rattle.chains.specs.Chains.{Chains};
 ghost use Rattle.chains.specs.Counts.{Counted};
 ghost use Rattle.chains.specs.Filling.{Filled};
 ghost use Rattle.board.specs.Controls.{isCrossing, driversAt, anyOther, Idle};
-use crate::nesting::nested_by_size;
+use crate::nesting::nested_downward;
 use crate::nesting::nested_upward;
 use cells::net_at;
 use chains::TABLE;
@@ -92,7 +92,7 @@ fn lowest_crossed(file: &[u8], table: &[u16; TABLE], cells: usize) -> Verdict
     Verdict::Accepted
 }
 
-// Refusal 10: as they stand, then by size; only where both tests fail is each pair looked at.
+// Refusal 10: only where both quick tests fail is each pair looked at.
 pub(crate) fn crossed_verdict(file: &[u8], table: &[u16; TABLE], cells: usize) -> Verdict
     requires { ⌜ Filled (now file) (now table) ⌝ }
     requires { ⌜ cells ≡ cellsOf (now file) ⌝ }
@@ -101,7 +101,7 @@ pub(crate) fn crossed_verdict(file: &[u8], table: &[u16; TABLE], cells: usize) -
     if nested_upward(file, table, cells) {
         return Verdict::Accepted;
     }
-    if nested_by_size(file, table, cells) {
+    if nested_downward(file, table, cells) {
         return Verdict::Accepted;
     }
     lowest_crossed(file, table, cells)

@@ -3,7 +3,7 @@ ghost use mathlib.Core.Path.{_≡_};
 ghost use mathlib.Core.Bool.{true, false};
 ghost use mathlib.Core.List.{_∷_, []};
 ghost use Prim.Native.Nat.{_<_, _≤_};
-ghost use Rattle.rules.specs.File.{boardOf, cellsOf, netsOf};
+ghost use Rattle.rules.specs.File.{boardOf, netsOf};
 ghost use Rattle.rules.specs.Refusals.{judge, each, clashing, netChecks, mostNets};
 ghost use Rattle.chains.specs.Table.{NetOf};
 ghost use Rattle.chains.specs.Chains.{Chains};
@@ -16,13 +16,11 @@ use chains::drivers_on;
 use chains::net_head;
 use chains::net_link;
 use rules::Driver;
+use rules::MOST_DRIVERS;
 use rules::Net;
 use rules::Verdict;
 use words::CELL_WORDS;
 use words::core;
-
-// "at most 16 controlled drivers on a net"
-const MOST_DRIVERS: usize = 16;
 
 // Refusal 7: a net without an output.
 fn undriven_verdict(table: &[u16; TABLE], nets: usize) -> Verdict

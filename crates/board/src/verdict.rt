@@ -8,11 +8,8 @@ ghost use Rattle.chains.specs.Filling.{Filled};
 use crate::controls::crossed_verdict;
 use crate::controls::unequal_verdict;
 use crate::nets::nets_verdict;
-use blocks::header_verdict;
-use blocks::layout_verdict;
-use blocks::length_verdict;
 use blocks::read_sizes;
-use blocks::sums_verdict;
+use blocks::shape_verdict;
 use cells::records_verdict;
 use chains::TABLE;
 use chains::filling::fill_table;
@@ -22,23 +19,11 @@ use rules::Verdict;
 fn file_verdict(file: &[u8]) -> Verdict
     ensures { λ r. ⌜ r ≡ judge (fileChecks (now (file .entry))) ⌝ }
 {
-    let length = length_verdict(file);
-    let Verdict::Accepted = length else {
-        return length;
-    };
-    let sums = sums_verdict(file);
-    let Verdict::Accepted = sums else {
-        return sums;
-    };
-    let header = header_verdict(file);
-    let Verdict::Accepted = header else {
-        return header;
+    let shape = shape_verdict(file);
+    let Verdict::Accepted = shape else {
+        return shape;
     };
     let sizes = read_sizes(file);
-    let layout = layout_verdict(file, sizes.cells);
-    let Verdict::Accepted = layout else {
-        return layout;
-    };
     records_verdict(file, sizes.cells, sizes.nets)
 }
 

@@ -9,36 +9,36 @@ ghost use Rattle.rules.specs.File as File;
 ghost use mathlib.Core.Bool.{_&&_};
 ghost use Rattle.rules.specs.Drivers.{driverAt};
 ghost use Rattle.cells.specs.Whole.{Shaped, Sized, Whole};
-use blocks::BLOCK_RECORDS;
-use blocks::BLOCK_SIZE;
-use blocks::HEAD_SIZE;
-use blocks::RECORD_SIZE;
+use rules::BLOCK_RECORDS;
+use rules::BLOCK_SIZE;
 use rules::Cell;
 use rules::Driver;
+use rules::HEAD_SIZE;
+use rules::NONE;
 use rules::Net;
 use rules::Position;
+use rules::RECORD_SIZE;
 use rules::Record;
 use rules::Verdict;
 
-// "65,535 means none"
-const NONE: u16 = 65535;
-
-// Where the record of position 0 begins, and the bytes of a block that are not of its 84 records.
+// Where the record of position 0 begins, and the bytes of a block that are not of its records.
 const FIRST_RECORD: usize = BLOCK_SIZE + HEAD_SIZE;
 
 const SPARE_BYTES: usize = BLOCK_SIZE - RECORD_SIZE * BLOCK_RECORDS;
 
-// 1,561 / 131,072 is 1 / 84, and so little more that below 1,024 no position comes into the next block.
-const NEAR_84TH: usize = 1561;
+// NEAR_PART / NEAR_WHOLE, 1,561 / 131,072, is 1 / BLOCK_RECORDS and a little more.
+const NEAR_WHOLE: usize = 131072;
 
-const NEAR_84TH_OF: usize = 131072;
+const NEAR_PART: usize = NEAR_WHOLE / BLOCK_RECORDS + 1;
 
-// The block of cells of position p, counted from 0: p / 84 by one product, since every record read asks for it.
+// The block of cells of position p, counted from 0: p / BLOCK_RECORDS by one product, since every record read asks
+// for it. That little more brings no position below mostCells into the next block, and first brings 2,603 there:
+// the proof, which computes, fails for a mostCells above 2,603.
 fn block_of(p: usize) -> usize
     requires { ⌜ p < mostCells ⌝ }
     ensures { λ r. ⌜ r ≡ p / blockRecords ⌝ }
 {
-    p * NEAR_84TH / NEAR_84TH_OF
+    p * NEAR_PART / NEAR_WHOLE
 }
 
 // Where the record of position p begins: records follow each other, but for the spare bytes of the blocks between.
@@ -148,23 +148,37 @@ pub fn records_verdict(file: &[u8], cells: usize, nets: usize) -> Verdict
     Verdict::Accepted
 }
 
+// What the record at position p of a whole file says: its kind alone tells which columns its cell holds,
+// since check 6 has looked at each of them.
+fn plain_record(file: &[u8], p: usize) -> Record
+    requires { ⌜ Whole (now file) p ⌝ }
+    ensures { λ r. ⌜ r ≡ recordOf (now (file .entry)) p ⌝ }
+{
+    let at = record_start(p);
+    let kind = file[at];
+    match kind {
+        0 => Record::Means(Cell::Internal),
+        1 => Record::Means(Cell::Input(Net(blocks::pair(file, at + 4)))),
+        2 => Record::Means(Cell::Control(file[at + 1] == 1)),
+        3 => Record::Means(Cell::ThreeState(
+            Position(blocks::pair(file, at + 2)),
+            Net(blocks::pair(file, at + 4)),
+        )),
+        4 => Record::Means(Cell::TwoState(Net(blocks::pair(file, at + 4)))),
+        _ => Record::Broken,
+    }
+}
+
 // The cell at position p of a whole file: no record of it is broken.
 pub fn cell_at(file: &[u8], p: usize) -> Cell
     requires { ⌜ Whole (now file) p ⌝ }
     ensures { λ r. ⌜ r ≡ boardOf (now (file .entry)) .cell p ⌝ }
 {
-    let at = record_start(p);
-    let kind = file[at];
-    match kind {
-        1 => Cell::Input(Net(blocks::pair(file, at + 4))),
-        2 => Cell::Control(file[at + 1] == 1),
-        3 => Cell::ThreeState(
-            Position(blocks::pair(file, at + 2)),
-            Net(blocks::pair(file, at + 4)),
-        ),
-        4 => Cell::TwoState(Net(blocks::pair(file, at + 4))),
-        _ => Cell::Internal,
-    }
+    let record = plain_record(file, p);
+    let Record::Means(cell) = record else {
+        return Cell::Internal;
+    };
+    cell
 }
 
 // The net at position p of a whole file, or 65,535: what a walk along drivers needs of their records.

@@ -1,25 +1,25 @@
 -- Laws of chains: what `last` gives, and what one more output does to a head and a link.
-use Prim.Native.Nat.{ℕ, zero, suc, _+_, _-_, _<_, _≤_}
+use Prim.Native.Nat.{ℕ, zero, suc, _+_, _<_, _≤_}
 use mathlib.Core.Path.{_≡_, refl, sym, _∙_}
 use mathlib.Core.Logic.{_⊎_, ⊎-elim}
 use mathlib.Core.Bool.{Bool, true, false, cond, _&&_, _||_, false≢true, and-true, and-false}
 use mathlib.Core.List.{List}
 use native.Mathlib.Numerals.{add-one}
 use native.Mathlib.Omega.{arith}
-use borrow.Author.Tests.{eqb-true, eq-eqb, ltb-false}
-use lib.Dec.{eqb, ltb}
+use borrow.Author.Tests.{eqb-true, eq-eqb}
+use lib.Dec.{eqb}
 use lib.ListN.{length, getD}
 use Rattle.rules.specs.Basics.{any}
 use Rattle.rules.specs.File.{Board, boardOf, cellsOf, netOf, brokenAt}
 use Rattle.rules.specs.Drivers.{controlled, controlFor, alwaysOn, onNet, outputOf}
-use Rattle.rules.specs.Refusals.{judge, fileChecks, mostCells, mostNets}
+use Rattle.rules.specs.Refusals.{judge, fileChecks, mostCells}
 use Rattle.rules.specs.declared.Cell.{Cell}
 use Rattle.rules.specs.declared.Verdict.the-variants.{Accepted}
 use Rattle.rules.proofs.Shape.{laid, shaped, whole-records}
 use Rattle.rules.proofs.DriverLaws.{isOutput, output-is, kept-control, kept-net}
 use Rattle.rules.proofs.Tests.{decided, fails-if, clashes, below-suc}
-use Rattle.chains.specs.Table.{By, ControlCell, NetOf, Size, linksFrom, room, headIn, linkIn, spliced, Same}
-use Rattle.chains.specs.Chains.{last, keyAt, sizeKey, isKey, keyed, Linked}
+use Rattle.chains.specs.Table.{By, ControlCell, NetOf, linksFrom, room, headIn, linkIn, spliced, Same}
+use Rattle.chains.specs.Chains.{last, keyAt, isKey, keyed, Linked}
 use Rattle.chains.proofs.TableLaws.{spliced-head, spliced-link, spliced-other}
 use Rattle.chains.specs.declared.Key.the-variants.{Of, Nothing}
 
@@ -146,22 +146,6 @@ module _ (b : Board) (by : By) (c : ℕ) (t : List ℕ) (so-far : Linked b by c 
           (λ (q : d < c). there d (λ (s : d ≡ c). omega arith) (omega arith) ∙ so-far .link d k q h)
           (below-suc l)
 
--- a number of drivers has a key that fits its part
-size-fits : (drivers x : ℕ) → sizeKey drivers ≡ Of x → x < mostNets
-unfolding sizeKey
-size-fits drivers x e = go (ltb drivers 2) (ltb mostNets drivers) refl e
-  where
-    never : Nothing ≡ Of x → ⊥
-    never q = let z : _≡_ {A = ℕ} 0 1 = cc in omega arith
-
-    of : (y : ℕ) → Of y ≡ Of x → y ≡ x
-    of y q = cc
-
-    go : (a m : Bool) → ltb mostNets drivers ≡ m → cond a Nothing (cond m (Of (mostNets - 1)) (Of (drivers - 1))) ≡ Of x → x < mostNets
-    go true m h q = absurd (never q)
-    go false true h q = let s = of (mostNets - 1) q in omega arith
-    go false false h q = let s = of (drivers - 1) q in let o = ltb-false mostNets drivers h in omega arith
-
 -- a key of a whole file has a head
 pub key-below : (file : List ℕ) → judge (fileChecks file) ≡ Accepted → (by : By) (c x : ℕ) → c < cellsOf file → keyAt (boardOf file) by c ≡ Of x → x < room by
 unfolding keyAt boardOf
@@ -185,7 +169,6 @@ key-below file ok by c x l e = go by e
         let n = kept-net file whole c l (q .0) in
         let nets = laid file (shaped file ok) .nets .few in
         rw (← q .1) (omega arith)
-    go Size h = size-fits _ x h
 
 -- a walk along a chain, looking for a member that passes q: nothing above `at` has
 pub record Walking (p q : ℕ → Bool) (n at : ℕ) : Type 0 where

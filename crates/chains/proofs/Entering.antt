@@ -4,7 +4,7 @@ use Prim.Native.Nat.{ℕ, _+_, _<_, _≤_}
 use mathlib.Core.Path.{_≡_, refl, sym, _∙_}
 use mathlib.Core.List.{List}
 use native.Mathlib.Omega.{arith}
-use lib.ListN.{length, getD, set, replicate, length-replicate}
+use lib.ListN.{length, getD, set}
 use lib.Seq.{getD-set-other}
 use Rattle.rules.specs.Basics.{count}
 use Rattle.rules.specs.File.{Board, boardOf, cellsOf}
@@ -17,11 +17,10 @@ use Rattle.rules.specs.declared.Net.{Net}
 use Rattle.rules.specs.declared.Verdict.the-variants.{Accepted}
 use Rattle.rules.proofs.Shape.{laid, shaped}
 use Rattle.rules.proofs.DriverLaws.{is-driver, no-driver}
-use Rattle.words.proofs.Members.{zero-at}
-use Rattle.chains.specs.Table.{By, ControlCell, NetOf, Size, linksFrom, room, countsFrom, spareFrom, tableSize, sizesSize, countIn, spliced, oneMore, Blank, Same}
+use Rattle.chains.specs.Table.{By, ControlCell, NetOf, linksFrom, room, countsFrom, spareFrom, tableSize, countIn, spliced, oneMore, Blank, Same}
 use Rattle.chains.specs.Chains.{keyAt, Grown}
 use Rattle.chains.specs.Counts.{Counted}
-use Rattle.chains.specs.Filling.{Entered, Sized}
+use Rattle.chains.specs.Filling.{Entered}
 use Rattle.chains.specs.declared.Key.the-variants.{Of, Nothing}
 use Rattle.chains.proofs.TableLaws.{spliced-long, spliced-apart, more-long, more-before}
 use Rattle.chains.proofs.Chaining.{linked-none, linked-same, linked-skip, linked-add, key-below}
@@ -96,7 +95,6 @@ module _ (c x : ℕ) (t : List ℕ) (l : c < mostCells) where
 before-counts : (by : By) → linksFrom by + (mostCells + room by) ≤ countsFrom
 before-counts ControlCell = omega arith
 before-counts NetOf = omega arith
-before-counts Size = omega arith
 
 apart-counts : (by : By) (c x : ℕ) (t : List ℕ) → c < mostCells → x < room by → Same countsFrom (countsFrom + mostNets) t (spliced (linksFrom by) c x t)
 apart-counts by c x t l m =
@@ -189,31 +187,6 @@ module _ (file : List ℕ) (c : ℕ) (t : List ℕ) (so-far : Entered file c t) 
           by-control = grown-same file ControlCell (c + 1) both _ (omega arith) both-control (more-before (n .0) both _ _ (before-counts ControlCell));
           by-net = grown-same file NetOf (c + 1) both _ (omega arith) both-net (more-before (n .0) both _ _ (before-counts NetOf));
           counted = counted-add file c both both-counts k n (driver-fits .1) both-long d;
-        }
-
--- no position has a chain by size in a table of zeros; one control cell more
-pub size-first : (file : List ℕ) → judge (fileChecks file) ≡ Accepted → Sized file 0 (replicate sizesSize 0)
-size-first file ok =
-    record {
-      long = length-replicate {A = ℕ} sizesSize 0;
-      by-size = record { checked = ok; linked = linked-none (boardOf file) Size (replicate sizesSize 0) (zero-at sizesSize) };
-    }
-
-module _ (file : List ℕ) (k : ℕ) (sizes : List ℕ) (so-far : Sized file k sizes) (l : k < cellsOf file) where
-  pub size-none : keyAt (boardOf file) Size k ≡ Nothing → Sized file (k + 1) sizes
-  size-none e = record { long = so-far .long; by-size = grown-skip _ _ _ _ (so-far .by-size) e }
-
-  module _ (x : ℕ) (e : keyAt (boardOf file) Size k ≡ Of x) where
-    pub size-fits : (k < mostCells) × (x < mostNets)
-    size-fits =
-        let f = laid file (shaped file (so-far .by-size .checked)) .cells .few in
-        (omega arith, key-below file (so-far .by-size .checked) Size k x l e)
-
-    pub size-add : Sized file (k + 1) (spliced (linksFrom Size) k x sizes)
-    size-add =
-        record {
-          long = spliced-long (linksFrom Size) k x sizes ∙ so-far .long;
-          by-size = grown-add file Size k sizes (so-far .by-size) (let q = so-far .long in omega arith) l x e;
         }
 
 -- what is kept in the spare room leaves the chains by control cell and the numbers of drivers

@@ -2,7 +2,6 @@
 pub mod TableLaws
 pub mod Chaining
 pub mod Walks
-pub mod SizeLaws
 pub mod CountLaws
 pub mod Entering
 pub mod Gathering

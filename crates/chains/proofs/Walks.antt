@@ -1,18 +1,18 @@
 -- Walks along the chains of a whole file, from a head or a link down to the last: what each step of such a loop needs.
-use Prim.Native.Nat.{ℕ, zero, suc, _+_, _-_, _<_, _≤_}
-use mathlib.Core.Path.{_≡_, refl, sym, _∙_, ap}
-use mathlib.Core.Bool.{Bool, true, false, cond}
+use Prim.Native.Nat.{ℕ, suc, _-_, _<_, _≤_}
+use mathlib.Core.Path.{_≡_, sym, _∙_, ap}
+use mathlib.Core.Bool.{Bool, true, false}
 use mathlib.Core.List.{List}
 use native.Mathlib.Omega.{arith}
-use Rattle.rules.specs.Basics.{any, count, digit}
+use Rattle.rules.specs.Basics.{any}
 use Rattle.rules.specs.File.{boardOf, cellsOf, netsOf}
 use Rattle.rules.proofs.Tests.{any-none}
 use Rattle.rules.proofs.Shape.{laid, shaped}
 use Rattle.rules.specs.Refusals.{judge, fileChecks, mostCells, mostNets}
 use Rattle.rules.specs.declared.Verdict.the-variants.{Accepted}
 use Rattle.chains.specs.Table.{By, room, headIn, linkIn}
-use Rattle.chains.specs.Chains.{last, keyed, Chains}
-use Rattle.chains.proofs.Chaining.{last-le, last-member, last-again, Walking, walk-start, walk-next, walk-found, walk-ended, walk-member}
+use Rattle.chains.specs.Chains.{keyed, Chains}
+use Rattle.chains.proofs.Chaining.{last-le, Walking, walk-start, walk-next, walk-found, walk-ended, walk-member}
 
 -- the cells and the nets of a whole file fit the table
 pub cell-fits : (file : List ℕ) → judge (fileChecks file) ≡ Accepted → (c : ℕ) → c < cellsOf file → c < mostCells
@@ -73,54 +73,3 @@ module _ (file : List ℕ) (by : By) (t : List ℕ) (chains : Chains file by t) 
   pub none-keyed : (k : ℕ) → k < room by → headIn by t k ≡ 0 → (c : ℕ) → c < cellsOf file → keyed (boardOf file) by k c ≡ false
   none-keyed k l z c m =
       any-none _ _ (missed k (keyed (boardOf file) by k) (λ d h. h) (cellsOf file) 0 (from-head k (keyed (boardOf file) by k) (λ d h. h) l 0 (sym z)) (omega arith)) m
-
--- a walk that counts: what it has counted, with those of the chain below, are all of the chain
-pub record Tallied (p : ℕ → Bool) (n at found : ℕ) : Type 0 where
-  pub top : last at p ≡ at
-  pub under : at ≤ n
-  pub sum : found + count at p ≡ count n p
-
--- the last that passes bounds the count
-count-last : (n : ℕ) (p : ℕ → Bool) → count (last n p) p ≡ count n p
-unfolding last count
-count-last zero p = refl
-count-last (suc n) p = go (p n) refl (count-last n p)
-  where
-    go : (a : Bool) → p n ≡ a → count (last n p) p ≡ count n p → count (cond a (suc n) (last n p)) p ≡ count n p + digit (p n)
-    go true e r = refl
-    go false e r = r ∙ rw e (omega arith)
-
-module _ (file : List ℕ) (by : By) (t : List ℕ) (chains : Chains file by t) (k : ℕ) where
-  abbrev pub Tally : ℕ → ℕ → Type 0
-  Tally at found = Tallied (keyed (boardOf file) by k) (cellsOf file) at found
-
-  pub tally-start : k < room by → (at : ℕ) → at ≡ headIn by t k → Tally at 0
-  tally-start l at e =
-      rw (e, chains .linked .head k l)
-      (record {
-        top = last-again (cellsOf file) (keyed (boardOf file) by k);
-        under = last-le (cellsOf file) (keyed (boardOf file) by k);
-        sum = (let c = count-last (cellsOf file) (keyed (boardOf file) by k) in omega arith);
-      })
-
-  pub tally-next : (at found cell next : ℕ) → Tally at found → 0 < at → cell ≡ at - 1 → next ≡ linkIn by t cell → Tally next (found + 1)
-  unfolding count
-  tally-next at found cell next w some named e =
-      let p = keyed (boardOf file) by k in
-      let u = w .under in
-      let on = last-member at p (at - 1) (w .top ∙ sym (above at some)) in
-      let whole : count at p ≡ count (at - 1) p + 1 = ap (λ (x : ℕ). count x p) (sym (above at some)) ∙ ap (λ (x : Bool). count (at - 1) p + digit x) on in
-      rw (e, named, chains .linked .link (at - 1) k (omega arith) on)
-      (record {
-        top = last-again (at - 1) p;
-        under = (let v = last-le (at - 1) p in omega arith);
-        sum = (let s = w .sum in let c = count-last (at - 1) p in omega arith);
-      })
-
-  pub tally-ended : (at found : ℕ) → Tally at found → at ≤ 0 → found ≡ count (cellsOf file) (keyed (boardOf file) by k)
-  unfolding count
-  tally-ended at found w z =
-      let e : at ≡ 0 = omega arith in
-      let s = w .sum in
-      let c : count at (keyed (boardOf file) by k) ≡ 0 = ap (λ (x : ℕ). count x (keyed (boardOf file) by k)) e in
-      omega arith

@@ -1,16 +1,15 @@
--- Chains in the table: outputs by control cell and by net, control cells by their number of drivers. A head is the highest position of a key, a
+-- Chains of outputs in the table, by control cell and by net. A head is the highest position of a key, a
 -- link the next lower position of the same key; both are 1 + a position, and 0 is none.
-use Prim.Native.Nat.{ℕ, zero, suc, _-_, _<_, _≤_}
+use Prim.Native.Nat.{ℕ, zero, suc, _<_, _≤_}
 use mathlib.Core.Path.{_≡_}
-use mathlib.Core.Bool.{Bool, true, false, cond, _&&_, _||_}
+use mathlib.Core.Bool.{Bool, true, false, cond, _||_}
 use mathlib.Core.List.{List}
-use lib.Dec.{eqb, ltb}
-use Rattle.rules.specs.Basics.{count}
+use lib.Dec.{eqb}
 use Rattle.rules.specs.File.{Board, boardOf, cellsOf, netOf}
 use Rattle.rules.specs.Drivers.{controlled, controlFor, alwaysOn}
-use Rattle.rules.specs.Refusals.{judge, fileChecks, mostCells, mostNets}
+use Rattle.rules.specs.Refusals.{judge, fileChecks, mostCells}
 use Rattle.rules.specs.declared.Verdict.the-variants.{Accepted}
-use Rattle.chains.specs.Table.{By, ControlCell, NetOf, Size, room, headIn, linkIn}
+use Rattle.chains.specs.Table.{By, ControlCell, NetOf, room, headIn, linkIn}
 use Rattle.chains.specs.declared.Key.{Key}
 use Rattle.chains.specs.declared.Key.the-variants.{Of, Nothing}
 
@@ -19,19 +18,10 @@ unfoldable pub last : ℕ → (ℕ → Bool) → ℕ
 last zero p = 0
 last (suc n) p = cond (p n) (suc n) (last n p)
 
--- how many drivers control cell k has
-unfoldable pub driversFor : Board → ℕ → ℕ
-driversFor b k = count (b .size) (λ c. controlled b c && eqb (controlFor b c) k)
-
--- the key of a control cell with so many drivers: one less, since there are at most as many as nets; with one driver or none it needs no chain
-unfoldable pub sizeKey : ℕ → Key
-sizeKey drivers = cond (ltb drivers 2) Nothing (cond (ltb mostNets drivers) (Of (mostNets - 1)) (Of (drivers - 1)))
-
--- the key of the cell at c: a driver's control cell, an output's net, a control cell's number of drivers
+-- the key of the cell at c: a driver's control cell, or an output's net
 unfoldable pub keyAt : Board → By → ℕ → Key
 keyAt b ControlCell c = cond (controlled b c) (Of (controlFor b c)) Nothing
 keyAt b NetOf c = cond (controlled b c || alwaysOn b c) (Of (netOf (b .cell c))) Nothing
-keyAt b Size c = sizeKey (driversFor b c)
 
 unfoldable pub isKey : Key → ℕ → Bool
 isKey (Of x) k = eqb x k

@@ -6,7 +6,7 @@ use lib.ListN.{length}
 use Rattle.rules.specs.File.{cellsOf}
 use Rattle.rules.specs.Refusals.{judge, fileChecks}
 use Rattle.rules.specs.declared.Verdict.the-variants.{Accepted}
-use Rattle.chains.specs.Table.{ControlCell, NetOf, Size, tableSize, sizesSize, Blank}
+use Rattle.chains.specs.Table.{ControlCell, NetOf, tableSize, Blank}
 use Rattle.chains.specs.Chains.{Grown}
 use Rattle.chains.specs.Counts.{Counted}
 
@@ -27,8 +27,3 @@ pub record Entered (file : List ℕ) (n : ℕ) (t : List ℕ) : Type 0 where
 -- those of all positions
 abbrev pub Filled : List ℕ → List ℕ → Type 0
 Filled file t = Entered file (cellsOf file) t
-
--- the chains by size of the first n positions, in a table of their own
-pub record Sized (file : List ℕ) (n : ℕ) (sizes : List ℕ) : Type 0 where
-  pub long : length sizes ≡ sizesSize
-  pub by-size : Grown file Size n sizes

@@ -1,4 +1,4 @@
--- The one lent table, and the verdict's own by size: where their parts stand, and what an entry of each is. A family of chains has its links, one a position, and then its heads,
+-- The one lent table: where its parts stand, and what an entry of each is. A family of chains has its links, one a position, and then its heads,
 -- one a key. Assumes nothing.
 use Prim.Native.Nat.{ℕ, _+_, _*_, _≤_, _<_}
 use mathlib.Core.Path.{_≡_}
@@ -6,23 +6,20 @@ use mathlib.Core.List.{List}
 use lib.ListN.{length, getD, set}
 use Rattle.rules.specs.Refusals.{mostCells, mostNets}
 
--- what a chain goes by: outputs by their control cell or their net, control cells by their number of drivers
+-- what a chain of outputs goes by: their control cell or their net
 pub data By : Type 0 where
   ControlCell : By
   NetOf : By
-  Size : By
 
--- where a family's links begin in its table: the chains by size have one of their own
+-- where a family's links begin
 abbrev pub linksFrom : By → ℕ
 linksFrom ControlCell = 0
 linksFrom NetOf = 2 * mostCells
-linksFrom Size = 0
 
 -- how many heads a family has
 abbrev pub room : By → ℕ
 room ControlCell = mostCells
 room NetOf = mostNets
-room Size = mostNets
 
 -- where the numbers of drivers begin, one a net
 abbrev pub countsFrom : ℕ
@@ -35,10 +32,6 @@ spareFrom = linksFrom NetOf
 -- all entries
 abbrev pub tableSize : ℕ
 tableSize = 3 * mostCells + 2 * mostNets
-
--- and those of the table by size, which the verdict alone uses: one family
-abbrev pub sizesSize : ℕ
-sizesSize = mostCells + mostNets
 
 -- the head of key k, the link of the cell at c, the number of drivers of net n
 abbrev pub headIn : By → List ℕ → ℕ → ℕ

@@ -1,6 +1,5 @@
 // The one lent table of a board: chains of outputs by control cell and by net, and the numbers of
-// drivers. It is filled in `filling` and walked in `sharing`; chains of control cells by their number of
-// drivers stand in a table of their own (`sizes`), since the verdict alone uses them.
+// drivers. It is filled in `filling` and walked in `sharing`.
 ghost use mathlib.Core.Path.{_≡_};
 ghost use Prim.Native.Nat.{_+_, _-_, _<_, _≤_};
 ghost use lib.ListN.{getD, set};
@@ -9,16 +8,15 @@ ghost use Rattle.rules.specs.Refusals.{mostCells, mostNets};
 ghost use Rattle.chains.specs.Table.{ControlCell, NetOf, headIn, linkIn, countIn, spareIn, spareFrom, spliced, oneMore, tableSize};
 ghost use Rattle.chains.specs.Chains.{keyAt};
 ghost use Rattle.cells.specs.Whole.{Whole};
-use blocks::MOST_CELLS;
-use blocks::MOST_NETS;
 use cells::cell_at;
 use rules::Cell;
+use rules::MOST_CELLS;
+use rules::MOST_NETS;
 use rules::Net;
 use rules::Position;
 
 pub mod filling;
 pub mod sharing;
-pub mod sizes;
 
 // Where the parts of the table begin: each family of chains has its links, one a position, and then its
 // heads, one a key; last the numbers of drivers, one a net.
@@ -30,9 +28,6 @@ const COUNTS: usize = 3 * MOST_CELLS + MOST_NETS;
 
 // How many entries the table has, two bytes each.
 pub const TABLE: usize = 3 * MOST_CELLS + 2 * MOST_NETS;
-
-// And the table of the chains by size, which the verdict alone uses.
-pub const SIZES: usize = MOST_CELLS + MOST_NETS;
 
 // A cell's key in a chain, if it has one.
 pub enum Key {

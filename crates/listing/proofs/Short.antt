@@ -10,13 +10,14 @@ use Rattle.io.specs.Digits.{Fewest}
 use Rattle.rules.proofs.Tests.{order}
 use Rattle.rules.specs.Basics.{ceil, rowBytes}
 use Rattle.rules.specs.File.{cellsOf}
+use Rattle.rules.specs.Refusals.{mostCells, mostBytes}
 use Rattle.rules.proofs.Shape.{laid, shaped}
 use Rattle.select.specs.Turns.{Ready}
 
-pub few-cells : (file t : List ℕ) (cells : ℕ) → Ready file t → cells ≡ cellsOf file → cells ≤ 1024
+pub few-cells : (file t : List ℕ) (cells : ℕ) → Ready file t → cells ≡ cellsOf file → cells ≤ mostCells
 few-cells file t cells r e = let f = laid file (shaped file (r .by-control .checked)) .cells .few in omega arith
 
-pub row-short : (cells : ℕ) → cells ≤ 1024 → rowBytes cells ≤ 128
+pub row-short : (cells : ℕ) → cells ≤ mostCells → rowBytes cells ≤ mostBytes
 unfolding rowBytes ceil
 row-short cells l = omega arith
 

@@ -5,6 +5,7 @@ ghost use Prim.Native.Nat.{ℕ, _+_, _*_, _<_, _≤_};
 ghost use lib.ListN.{length};
 ghost use lib.Seq.{paste};
 ghost use Rattle.rules.specs.File.{boardOf, cellsOf};
+ghost use Rattle.rules.specs.Refusals.{mostBytes};
 ghost use Rattle.rules.specs.Vectors.{totalOf};
 ghost use Rattle.chains.specs.Table.{Blank};
 ghost use Rattle.select.specs.Turns.{Ready};
@@ -23,11 +24,11 @@ use rows::vectors::write_vector;
 use rules::Refusal;
 use rules::Verdict;
 
-// 14 blocks and a byte more: a longer file is refused, not cut.
-const ROOM: usize = 7169;
+// The longest file and a byte more: a longer one is refused, not cut.
+const ROOM: usize = rules::MOST_FILE + 1;
 
 // The most bytes of a row.
-const ROW: usize = 128;
+const ROW: usize = rules::MOST_BYTES;
 
 // The most bytes of a line: two numbers of 20 digits and a byte after each, a row in digits, the
 // newline.
@@ -98,7 +99,7 @@ fn say(line: &[u8], end: usize) -> bool
 
 // The line of a vector: its number, its group, its row.
 fn say_row(t: usize, group: usize, row: &[u8]) -> bool
-    requires { ⌜ length (now row) ≤ 128 ⌝ }
+    requires { ⌜ length (now row) ≤ mostBytes ⌝ }
 {
     let mut line = [0u8; LINE];
     let group_at = put_number(&mut line, 0, t, b' ');

@@ -8,14 +8,15 @@ use borrow.Author.Tests.{le-ltb}
 use lib.Dec.{ltb}
 use lib.ListN.{length, getD}
 use Rattle.rules.specs.Basics.{count, table}
+use Rattle.rules.specs.File.{mostNumber}
 use Rattle.rules.specs.Vectors.{among, differs, insertedAfter, between, stepsOf, vectorOf}
 use Rattle.rules.specs.declared.Step.{Step}
 use Rattle.rules.specs.declared.Step.the-variants.{Base, Inserted}
 use Rattle.rules.proofs.Digits.{length-table, table-at}
 use Rattle.rules.proofs.Weaving.{weave-each}
-use Rattle.words.specs.Sets.{unlike}
+use Rattle.words.specs.Sets.{netWords, unlike}
 use Rattle.plan.specs.declared.steps.Plan.{Plan}
-use Rattle.plan.specs.Plans.{basesFor, mix, Small, Within}
+use Rattle.plan.specs.Plans.{basesFor, mix, mostPatterns, Small, Within}
 use Rattle.plan.proofs.Stepping.{size, size-low, extra-low, start, step-base, step-inserted}
 
 -- a net that differs and changes sides has its new value, another keeps its old
@@ -33,7 +34,12 @@ unfolding among mix
 mixed-nets k old new = fun-ext (λ m. mixed (old m) (new m) (ltb (count m (unlike old new)) k))
 
 -- the t-th inserted vector's values, and none changed at first
-pub mix-inserted : (p : Plan) (i t : ℕ) (old new f : ℕ → Bool) → old ≡ basesFor p .value i → new ≡ basesFor p .value (i + 1) → f ≡ mix (t * p .limit) old new → f ≡ vectorOf (basesFor p) (Inserted i t) .value
+pub mix-inserted :
+    (p : Plan) (i t : ℕ) (old new f : ℕ → Bool) →
+    old ≡ basesFor p .value i →
+    new ≡ basesFor p .value (i + 1) →
+    f ≡ mix (t * p .limit) old new →
+    f ≡ vectorOf (basesFor p) (Inserted i t) .value
 unfolding vectorOf differs basesFor mix
 mix-inserted p i t old new f e h m = m ∙ ap₂ (mix (t * p .limit)) e h
 
@@ -42,11 +48,11 @@ unfolding mix among
 mix-none old new = fun-ext (λ m. rw (le-ltb (count m (unlike old new)) 0 (omega arith), and-false (unlike old new m)))
 
 -- the nets that have changed sides are a small number
-pub changed-low : (p : Plan) (k : ℕ) → Small p → k ≤ 256 → k * p .limit ≤ 256 * 65535
-changed-low p k s l = le-trans (mul-le-mul-right (p .limit) l) (mul-le-mul-left 256 (s .low))
+pub changed-low : (p : Plan) (k : ℕ) → Small p → k ≤ 64 * netWords → k * p .limit ≤ 64 * netWords * mostNumber
+changed-low p k s l = le-trans (mul-le-mul-right (p .limit) l) (mul-le-mul-left (64 * netWords) (s .low))
 
 -- the group of base vector i, which those inserted after it have too
-pub group-low : (p : Plan) (i : ℕ) → Small p → i < p .groups * p .wide → 1 + i / p .wide ≤ 65535 * 20
+pub group-low : (p : Plan) (i : ℕ) → Small p → i < p .groups * p .wide → 1 + i / p .wide ≤ mostNumber * mostPatterns
 group-low p i s l = let a = div-le-self i (p .wide) in omega (arith, size-low p s)
 
 pub group-base : (p : Plan) (i : ℕ) → 1 + i / p .wide ≡ vectorOf (basesFor p) (Base i) .group
@@ -69,7 +75,15 @@ steps-within p s =
     inside b l k h = rw (table-at (insertedAfter (basesFor p) b) (λ t. Inserted b (t + 1)) (Base 0) h) (l, let e = extra-low p s b in omega arith)
 
 -- the values of the k-th vector of part i, the base vector being the 0th
-pub value-at : (p : Plan) (t i k : ℕ) (old new f : ℕ → Bool) → i < size p → start p i + k ≡ t → k ≤ insertedAfter (basesFor p) i → old ≡ basesFor p .value i → new ≡ basesFor p .value (i + 1) → f ≡ mix (k * p .limit) old new → f ≡ vectorOf (basesFor p) (getD (stepsOf (basesFor p)) t (Base 0)) .value
+pub value-at :
+    (p : Plan) (t i k : ℕ) (old new f : ℕ → Bool) →
+    i < size p →
+    start p i + k ≡ t →
+    k ≤ insertedAfter (basesFor p) i →
+    old ≡ basesFor p .value i →
+    new ≡ basesFor p .value (i + 1) →
+    f ≡ mix (k * p .limit) old new →
+    f ≡ vectorOf (basesFor p) (getD (stepsOf (basesFor p)) t (Base 0)) .value
 unfolding vectorOf
 value-at p t i zero old new f l e h o n m =
     m

@@ -1,6 +1,6 @@
 -- A board's plan: its base vectors are the board's, and its numbers are small where the board is accepted.
 use Prim.Native.Nat.{ℕ, zero, suc, _<_, _≤_}
-use mathlib.Core.Path.{_≡_, refl, sym, _∙_, ap}
+use mathlib.Core.Path.{_≡_, refl, _∙_, ap}
 use mathlib.Core.List.{List, [], _∷_}
 use native.Mathlib.Omega.{arith}
 use lib.Dec.{ltb}
@@ -8,11 +8,10 @@ use lib.ListN.{length, getD}
 use Rattle.rules.specs.Basics.{largest}
 use Rattle.rules.specs.File.{Board, boardOf, netsOf, limitOf}
 use Rattle.rules.specs.Drivers.{degree, groupsOf}
-use Rattle.rules.specs.Refusals.{judge, once, boardChecks, countChecks, fileChecks, earlyChecks, mostVectors}
+use Rattle.rules.specs.Refusals.{judge, once, boardChecks, countChecks, fileChecks, earlyChecks, mostNets, mostLimit, mostDrivers, mostVectors, mostWidth}
 use Rattle.rules.specs.Vectors.{Bases, codeWidth, widthOf, patternOf, basesOf, stepsOf, vectorOf, planOf, totalOf, vectorAt}
 use Rattle.rules.specs.declared.Step.{Step}
 use Rattle.rules.specs.declared.Step.the-variants.{Base}
-use Rattle.rules.specs.declared.Verdict.{Verdict}
 use Rattle.rules.specs.declared.Verdict.the-variants.{Accepted}
 use Rattle.rules.proofs.Degree.{degree-drivers}
 use Rattle.rules.proofs.Selection.{sound}
@@ -20,9 +19,8 @@ use Rattle.rules.proofs.Shape.{laid, shaped}
 use Rattle.rules.proofs.Verdicts.{Then, then-append, append-pass, all-pass, accepted}
 use Rattle.plan.specs.declared.steps.Plan.{Plan}
 use Rattle.words.specs.Sets.{upTo}
-use Rattle.chains.specs.Filling.{Filled}
-use Rattle.plan.specs.Plans.{basesFor, Small}
-use Rattle.plan.specs.Planning.{PlanOf, Admitted}
+use Rattle.plan.specs.Plans.{basesFor, mostPatterns, Small}
+use Rattle.plan.specs.Planning.{PlanOf}
 use Rattle.plan.proofs.Coding.{width-some, width-low}
 
 -- the plan that the board's numbers make
@@ -37,7 +35,13 @@ plan-same : (b : Board) (p : Plan) → PlanOf b p → p ≡ own-plan b
 unfolding own-plan
 plan-same b p h = go (p .nets) (p .wide) (p .groups) (p .limit) (h .nets-are) (h .wide-are) (h .groups-are) (h .limit-are)
   where
-    go : (n w g l : ℕ) → n ≡ b .nets → w ≡ widthOf b → g ≡ groupsOf b → l ≡ b .limit → _≡_ {A = Plan} (record { nets = n; wide = w; groups = g; limit = l }) (record { nets = b .nets; wide = widthOf b; groups = groupsOf b; limit = b .limit })
+    go :
+        (n w g l : ℕ) →
+        n ≡ b .nets →
+        w ≡ widthOf b →
+        g ≡ groupsOf b →
+        l ≡ b .limit →
+        _≡_ {A = Plan} (record { nets = n; wide = w; groups = g; limit = l }) (record { nets = b .nets; wide = widthOf b; groups = groupsOf b; limit = b .limit })
     go n w g l e f x y = rw (e, f, x, y)
 
 pub bases-are : (b : Board) (p : Plan) → PlanOf b p → basesFor p ≡ basesOf b
@@ -69,16 +73,16 @@ wide-some : (b : Board) → 1 ≤ widthOf b
 unfolding widthOf
 wide-some b = width-some (b .nets)
 
-wide-low : (b : Board) (p : Plan) → PlanOf b p → p .nets ≤ 256 → p .wide ≤ 20
+wide-low : (b : Board) (p : Plan) → PlanOf b p → p .nets ≤ mostNets → p .wide ≤ mostPatterns
 unfolding widthOf
-wide-low b p h n = let e = h .nets-are in let w = width-low 9 (b .nets) (omega arith) in let f = h .wide-are in omega arith
+wide-low b p h n = let e = h .nets-are in let w = width-low mostWidth (b .nets) (omega arith) in let f = h .wide-are in omega arith
 
 module _ (file : List ℕ) (ok : judge (boardChecks file) ≡ Accepted) where
-  pub groups-low : groupsOf (boardOf file) ≤ 16
+  pub groups-low : groupsOf (boardOf file) ≤ mostDrivers
   unfolding groupsOf
   groups-low =
       let e = sound file ok .checked in
-      let l = largest-low (boardOf file .nets) 16 (degree (boardOf file)) (λ n m. let d = degree-drivers (boardOf file) e n m in let f = e .few n m in omega arith) in
+      let l = largest-low (boardOf file .nets) mostDrivers (degree (boardOf file)) (λ n m. let d = degree-drivers (boardOf file) e n m in let f = e .few n m in omega arith) in
       omega arith
 
   -- checks 1 to 6 have accepted
@@ -90,11 +94,19 @@ module _ (file : List ℕ) (ok : judge (boardChecks file) ≡ Accepted) where
   pub small-plan : (p : Plan) → PlanOf (boardOf file) p → Small p
   small-plan p h =
       let l = laid file (shaped file whole-file) in
-      let n : p .nets ≤ 256 = (let e = h .nets-are ∙ board-nets file in let f = l .nets .few in omega arith) in
-      let limit : (0 < p .limit) × (p .limit ≤ 1024) = (let e = h .limit-are ∙ board-limit file in let f = l .limit .some in let g = l .limit .few in (omega arith, omega arith)) in
-      let g : p .groups ≤ 16 = rw (h .groups-are) groups-low in
+      let n : p .nets ≤ mostNets = (let e = h .nets-are ∙ board-nets file in let f = l .nets .few in omega arith) in
+      let limit : (0 < p .limit) × (p .limit ≤ mostLimit) = (let e = h .limit-are ∙ board-limit file in let f = l .limit .some in let g = l .limit .few in (omega arith, omega arith)) in
+      let g : p .groups ≤ mostDrivers = rw (h .groups-are) groups-low in
       let t : 1 ≤ p .groups = rw (h .groups-are) (groups-some (boardOf file)) in
-      record { nets = n; coded = rw (h .wide-are) (wide-some (boardOf file)); narrow = wide-low (boardOf file) p h n; turns = t; few = omega (arith, g); limited = limit .0; low = omega (arith, limit .1) }
+      record {
+        nets = n;
+        coded = rw (h .wide-are) (wide-some (boardOf file));
+        narrow = wide-low (boardOf file) p h n;
+        turns = t;
+        few = omega (arith, g);
+        limited = limit .0;
+        low = omega (arith, limit .1);
+      }
 
 -- check 12, after the board's
 pub row-count : (file : List ℕ) → Then (judge (boardChecks file)) (judge (once 12 (ltb mostVectors (totalOf (boardOf file))) ∷ [])) (judge (countChecks file))

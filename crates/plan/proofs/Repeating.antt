@@ -8,13 +8,14 @@ use native.Mathlib.Numerals.{add-one}
 use native.Mathlib.Omega.{arith}
 use lib.ListN.{length, getD}
 use Rattle.rules.specs.Basics.{count, ceil}
+use Rattle.rules.specs.File.{mostNumber}
 use Rattle.rules.specs.Vectors.{codeBit, changes, differs, insertedAfter, between, stepsOf}
 use Rattle.rules.specs.declared.Step.the-variants.{Base, Inserted}
 use Rattle.rules.proofs.Tests.{order}
 use Rattle.rules.proofs.Weaving.{weave-finds}
 use Rattle.words.specs.Sets.{netWords, unlike, upTo}
 use Rattle.plan.specs.declared.steps.Plan.{Plan}
-use Rattle.plan.specs.Plans.{basesFor, insertedBetween, fullAfter, fullStart, roundOf, Small}
+use Rattle.plan.specs.Plans.{basesFor, mostPatterns, insertedBetween, fullAfter, fullStart, roundOf, Small}
 use Rattle.plan.proofs.Stepping.{size, size-some, changes-all, changes-low, ceil-low, extra-some, extra-none, start, start-zero, start-next, start-end, part-length, step-base, step-inserted}
 
 -- each vector before part k is one of an earlier part
@@ -114,17 +115,17 @@ pub full-low : (p : Plan) → Small p → (i : ℕ) → fullAfter p i ≤ 64 * n
 unfolding fullAfter
 full-low p s i = le-trans (ceil-low (changes (basesFor p) i) (p .limit) (s .limited)) (changes-low p s i)
 
-pub full-start-low : (p : Plan) → Small p → (i : ℕ) → fullStart p i ≤ 257 * i
+pub full-start-low : (p : Plan) → Small p → (i : ℕ) → fullStart p i ≤ (64 * netWords + 1) * i
 unfolding fullStart
 full-start-low p s zero = omega arith
 full-start-low p s (suc i) = let r = full-start-low p s i in omega (arith, full-low p s i)
 
-pub round-low : (p : Plan) → Small p → roundOf p ≤ 257 * 20
+pub round-low : (p : Plan) → Small p → roundOf p ≤ (64 * netWords + 1) * mostPatterns
 unfolding roundOf
 round-low p s = let n = s .narrow in omega (arith, full-start-low p s (p .wide))
 
-pub rounds-low : (p : Plan) → Small p → p .groups * roundOf p ≤ 65535 * (257 * 20)
-rounds-low p s = le-trans (mul-le-mul-right (roundOf p) (s .few)) (mul-le-mul-left 65535 (round-low p s))
+pub rounds-low : (p : Plan) → Small p → p .groups * roundOf p ≤ mostNumber * ((64 * netWords + 1) * mostPatterns)
+rounds-low p s = le-trans (mul-le-mul-right (roundOf p) (s .few)) (mul-le-mul-left mostNumber (round-low p s))
 
 full-start-some : (p : Plan) (i : ℕ) → i ≤ fullStart p i
 unfolding fullStart

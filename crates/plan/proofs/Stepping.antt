@@ -10,6 +10,7 @@ use native.Mathlib.Omega.{arith}
 use borrow.Author.Tests.{lt-ltb, le-ltb}
 use lib.ListN.{length, getD}
 use Rattle.rules.specs.Basics.{count, ceil}
+use Rattle.rules.specs.File.{mostNumber}
 use Rattle.rules.specs.Vectors.{differs, changes, insertedAfter, between, weave, stepsOf}
 use Rattle.rules.specs.declared.Step.the-variants.{Base, Inserted}
 use Rattle.rules.proofs.Tests.{count-le, order}
@@ -18,14 +19,14 @@ use Rattle.rules.proofs.Weaving.{weave-length, weave-at}
 use Rattle.words.specs.Sets.{netWords, upTo}
 use Rattle.words.proofs.Bounds.{count-bound}
 use Rattle.plan.specs.declared.steps.Plan.{Plan}
-use Rattle.plan.specs.Plans.{basesFor, Small}
+use Rattle.plan.specs.Plans.{basesFor, mostPatterns, Small}
 
 -- the number of base vectors
 abbrev pub size : Plan → ℕ
 size p = p .groups * p .wide
 
-pub size-low : (p : Plan) → Small p → size p ≤ 65535 * 20
-size-low p s = le-trans (mul-le-mul-right (p .wide) (s .few)) (mul-le-mul-left 65535 (s .narrow))
+pub size-low : (p : Plan) → Small p → size p ≤ mostNumber * mostPatterns
+size-low p s = le-trans (mul-le-mul-right (p .wide) (s .few)) (mul-le-mul-left mostNumber (s .narrow))
 
 pub size-some : (p : Plan) → Small p → 1 ≤ size p
 size-some p s = le-trans (mul-le-mul-right 1 (s .turns)) (mul-le-mul-left (p .groups) (s .coded))

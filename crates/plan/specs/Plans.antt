@@ -3,6 +3,7 @@ use Prim.Native.Nat.{ℕ, zero, suc, _+_, _*_, _-_, _/_, _%_, _≤_, _<_}
 use mathlib.Core.Path.{_≡_}
 use mathlib.Core.Bool.{Bool, cond}
 use Rattle.rules.specs.Basics.{bit, ceil, count}
+use Rattle.rules.specs.File.{mostNumber}
 use Rattle.rules.specs.Vectors.{Bases, codeBit, changes, among}
 use Rattle.rules.specs.declared.Step.{Step}
 use Rattle.rules.specs.declared.Step.the-variants.{Base, Inserted}
@@ -18,15 +19,19 @@ basesFor p =
 pub record WordOf (f : ℕ → Bool) (w word : ℕ) : Type 0 where
   pub digits : (k : ℕ) → k < 64 → bit word k ≡ f (64 * w + k)
 
+-- as many patterns as a code may have, loosely: `mostWidth` of them and some more
+abbrev pub mostPatterns : ℕ
+mostPatterns = 20
+
 -- loose bounds of the four numbers, within which no count overflows
 pub record Small (p : Plan) : Type 0 where
   pub nets : p .nets ≤ 64 * netWords
   pub coded : 1 ≤ p .wide
-  pub narrow : p .wide ≤ 20
+  pub narrow : p .wide ≤ mostPatterns
   pub turns : 1 ≤ p .groups
-  pub few : p .groups ≤ 65535
+  pub few : p .groups ≤ mostNumber
   pub limited : 1 ≤ p .limit
-  pub low : p .limit ≤ 65535
+  pub low : p .limit ≤ mostNumber
 
 -- the step stands in the plan's base vectors, and its number among the inserted ones is no larger than the number of nets
 abbrev pub Within : Plan → Step → Type 0

@@ -17,11 +17,9 @@ use crate::steps::total;
 use blocks::read_sizes;
 use board::verdict::examine;
 use chains::TABLE;
+use rules::MOST_VECTORS;
 use rules::Verdict;
 use select::degrees::groups_of;
-
-// "at most 4,096 vectors"
-const MOST_VECTORS: usize = 4096;
 
 // The plan of an accepted board.
 pub fn plan_of(file: &[u8], table: &[u16; TABLE]) -> Plan

@@ -4,6 +4,7 @@ ghost use mathlib.Core.Bool.{cond, _&&_};
 ghost use Prim.Native.Nat.{ℕ, _+_, _*_, _-_, _<_, _≤_};
 ghost use lib.Dec.{ltb};
 ghost use Rattle.rules.specs.Basics.{bit, ceil};
+ghost use Rattle.rules.specs.File.{mostNumber};
 ghost use Rattle.rules.specs.Vectors.{codeWidth, codeBit};
 ghost use Rattle.words.specs.Sets.{netWords, member, upTo};
 ghost use Rattle.plan.specs.Plans.{WordOf};
@@ -87,7 +88,7 @@ pub(crate) fn pattern(nets: usize, wide: usize, j: usize) -> NetSet
 
 // "ceil(h / SSOL) - 1 vectors are inserted (none for h = 0)".
 pub(crate) fn inserted(changes: usize, limit: usize) -> usize
-    requires { ⌜ (changes ≤ 64 * netWords) × (1 ≤ limit) × (limit ≤ 65535) ⌝ }
+    requires { ⌜ (changes ≤ 64 * netWords) × (1 ≤ limit) × (limit ≤ mostNumber) ⌝ }
     ensures { λ r. ⌜ r ≡ ceil changes limit - 1 ⌝ }
 {
     if changes == 0 {

@@ -2,6 +2,7 @@
 ghost use mathlib.Core.Path.{_≡_};
 ghost use Prim.Native.Nat.{_+_, _*_, _<_, _≤_};
 ghost use lib.ListN.{length, getD};
+ghost use Rattle.rules.specs.File.{mostNumber};
 ghost use Rattle.rules.specs.Vectors.{insertedAfter, stepsOf};
 ghost use Rattle.rules.specs.declared.Step.the-variants.{Base};
 ghost use Rattle.words.specs.Sets.{member};
@@ -29,7 +30,7 @@ pub fn base_values(plan: Plan, i: usize) -> NetSet
 
 // How many vectors are inserted between two base vectors of these values.
 fn inserted_between(old: NetSet, new: NetSet, limit: usize) -> usize
-    requires { ⌜ (1 ≤ limit) × (limit ≤ 65535) ⌝ }
+    requires { ⌜ (1 ≤ limit) × (limit ≤ mostNumber) ⌝ }
     ensures { λ r. ⌜ r ≡ insertedBetween (member (old .words)) (member (new .words)) limit ⌝ }
 {
     inserted(old.differing(new), limit)

@@ -2,6 +2,7 @@
 // tests/reference/plans.py.
 ghost use Prim.Native.Nat.{_<_, _≤_};
 ghost use lib.ListN.{length};
+ghost use Rattle.rules.specs.Refusals.{mostNets, mostLimit, mostDrivers};
 ghost use Rattle.rules.specs.Vectors.{stepsOf};
 ghost use Rattle.plan.specs.Plans.{Small, basesFor};
 use plan::codes::width;
@@ -15,7 +16,7 @@ use words::NetSet;
 
 // The plan of so many nets, groups and SSOL.
 fn plan_of(nets: usize, groups: usize, limit: usize) -> Plan
-    requires { ⌜ (nets ≤ 256) × (1 ≤ groups) × (groups ≤ 16) × (1 ≤ limit) × (limit ≤ 1024) ⌝ }
+    requires { ⌜ (nets ≤ mostNets) × (1 ≤ groups) × (groups ≤ mostDrivers) × (1 ≤ limit) × (limit ≤ mostLimit) ⌝ }
     ensures { λ r. ⌜ Small r ⌝ }
 {
     Plan {
@@ -46,7 +47,7 @@ fn say_total(plan: Plan)
 
 // A net's value.
 fn say_value(set: NetSet, m: usize)
-    requires { ⌜ m < 256 ⌝ }
+    requires { ⌜ m < mostNets ⌝ }
 {
     if set.has(Net(m as u16)) {
         io::write_all(1, b"1");
@@ -57,7 +58,7 @@ fn say_value(set: NetSet, m: usize)
 
 // The values of so many nets, from net 0 on.
 fn say_values(set: NetSet, nets: usize)
-    requires { ⌜ nets ≤ 256 ⌝ }
+    requires { ⌜ nets ≤ mostNets ⌝ }
 {
     for m in 0..nets {
         say_value(set, m);

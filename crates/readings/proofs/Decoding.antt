@@ -12,6 +12,7 @@ use lib.Dec.{ltb, eqb}
 use lib.ListN.{length}
 use lib.Pow.{pow-mono, shr-shr}
 use Rattle.rules.specs.Basics.{bit, digit, rowBytes}
+use Rattle.rules.specs.Refusals.{mostWidth}
 use Rattle.rules.specs.Vectors.{codeBit, stepsOf, vectorOf}
 use Rattle.rules.specs.declared.Step.{Step}
 use Rattle.rules.proofs.Tests.{alike, all-at, fails-not, order}
@@ -19,7 +20,7 @@ use Rattle.words.specs.Sets.{upTo}
 use Rattle.plan.specs.declared.steps.Plan.{Plan}
 use Rattle.plan.specs.Plans.{basesFor, Small}
 use Rattle.plan.proofs.Stepping.{size, step-base}
-use Rattle.readings.specs.Readings.{seenAt, valueAt, offAt, readBelow, startOf, codeFrom, Mapped, Captured}
+use Rattle.readings.specs.Readings.{seenAt, valueAt, offAt, readBelow, startOf, codeFrom, mostHalf, Mapped, Captured}
 use Rattle.readings.proofs.Places.{start-is, part-below}
 use Rattle.readings.proofs.Mapping.{mapped-same, mapped-then}
 
@@ -43,23 +44,32 @@ code-below p bytes capture (suc j) c =
     let d = digit-low (seenAt capture (startOf p j * bytes) c) in
     omega (arith, two-pow-succ j)
 
-pub code-low : (p : Plan) (bytes : ℕ) (capture : List ℕ) (j c e : ℕ) → j ≤ 9 → e ≤ 0 → codeFrom p bytes capture j c e ≤ 16383
+pub code-low : (p : Plan) (bytes : ℕ) (capture : List ℕ) (j c e : ℕ) → j ≤ mostWidth → e ≤ 0 → codeFrom p bytes capture j c e ≤ mostHalf
 code-low p bytes capture j c e l z =
     let s : e ≡ 0 = omega arith in
-    let m = pow-mono {i = j} {j = 9} l in
+    let m = pow-mono {i = j} {j = mostWidth} l in
     rw s (let r = code-below p bytes capture j c in omega arith)
 
 pub code-none : (p : Plan) (bytes : ℕ) (capture : List ℕ) (c e : ℕ) → e ≡ codeFrom p bytes capture 0 c e
 unfolding codeFrom
 code-none p bytes capture c e = refl
 
-pub code-more : {before between after : List ℕ} {n : ℕ} (p : Plan) (bytes : ℕ) (capture : List ℕ) (j t : ℕ) → t ≡ startOf p j → Mapped (codeFrom p bytes capture j) before n between → Mapped (λ c code. 2 * code + digit (seenAt capture (t * bytes) c)) between n after → Mapped (codeFrom p bytes capture (j + 1)) before n after
+pub code-more :
+    {before between after : List ℕ} {n : ℕ} (p : Plan) (bytes : ℕ) (capture : List ℕ) (j t : ℕ) →
+    t ≡ startOf p j →
+    Mapped (codeFrom p bytes capture j) before n between →
+    Mapped (λ c code. 2 * code + digit (seenAt capture (t * bytes) c)) between n after →
+    Mapped (codeFrom p bytes capture (j + 1)) before n after
 unfolding codeFrom
 code-more p bytes capture j t a m r =
     rw (add-one j)
     (mapped-same (λ c e. ap (λ (x : ℕ). 2 * codeFrom p bytes capture j c e + digit (seenAt capture (x * bytes) c)) a) (mapped-then m r))
 
-pub code-all : {before after : List ℕ} {n : ℕ} (p : Plan) (bytes : ℕ) (capture : List ℕ) (j wide : ℕ) → Mapped (codeFrom p bytes capture j) before n after → j ≡ wide → Mapped (codeFrom p bytes capture wide) before n after
+pub code-all :
+    {before after : List ℕ} {n : ℕ} (p : Plan) (bytes : ℕ) (capture : List ℕ) (j wide : ℕ) →
+    Mapped (codeFrom p bytes capture j) before n after →
+    j ≡ wide →
+    Mapped (codeFrom p bytes capture wide) before n after
 code-all p bytes capture j wide m e = mapped-same (λ c x. ap (λ (y : ℕ). codeFrom p bytes capture y c x) e) m
 
 -- a number's digits from the top: one more digit

@@ -9,6 +9,7 @@ use native.Mathlib.Omega.{arith}
 use borrow.Author.Tests.{lt-ltb, le-ltb}
 use lib.ListN.{length, getD}
 use Rattle.rules.specs.Basics.{any}
+use Rattle.rules.specs.Refusals.{mostVectors}
 use Rattle.rules.specs.Vectors.{insertedAfter, stepsOf}
 use Rattle.words.specs.Sets.{nothing, unlike}
 use Rattle.plan.specs.declared.steps.Plan.{Plan}
@@ -26,7 +27,14 @@ module _ (p : Plan) (bytes : ℕ) (capture table : List ℕ) where
   stray-of t c f g e h =
       ap₂ (λ (x y : ℕ → Bool). strayAt capture (t * bytes) ((t + 1) * bytes) (unlike x y) table c) e h
 
-  pub left-next : {before between after : List ℕ} {n : ℕ} (t k u : ℕ) (f g : ℕ → Bool) → t + k ≡ u → f ≡ valueAt p u → g ≡ valueAt p (u + 1) → Left (λ c. any k (λ j. strayAfter p bytes capture table c (t + j))) before n between → Left (strayAt capture (u * bytes) ((u + 1) * bytes) (unlike f g) table) between n after → Left (λ c. any (k + 1) (λ j. strayAfter p bytes capture table c (t + j))) before n after
+  pub left-next :
+      {before between after : List ℕ} {n : ℕ} (t k u : ℕ) (f g : ℕ → Bool) →
+      t + k ≡ u →
+      f ≡ valueAt p u →
+      g ≡ valueAt p (u + 1) →
+      Left (λ c. any k (λ j. strayAfter p bytes capture table c (t + j))) before n between →
+      Left (strayAt capture (u * bytes) ((u + 1) * bytes) (unlike f g) table) between n after →
+      Left (λ c. any (k + 1) (λ j. strayAfter p bytes capture table c (t + j))) before n after
   unfolding any
   left-next t k u f g e a b m r =
       rw (add-one k)
@@ -37,7 +45,12 @@ module _ (p : Plan) (bytes : ℕ) (capture table : List ℕ) where
   left-start t before n = left-all (λ c. refl)
 
   -- where nothing is inserted all stay, and otherwise those of the vectors that are
-  pub left-part : {before after : List ℕ} {n : ℕ} (i extra t : ℕ) → Part p i extra t → 0 < extra → Left (λ c. any (1 + extra) (λ k. strayAfter p bytes capture table c (t + k))) before n after → Left (λ c. strayIn p bytes capture table c i) before n after
+  pub left-part :
+      {before after : List ℕ} {n : ℕ} (i extra t : ℕ) →
+      Part p i extra t →
+      0 < extra →
+      Left (λ c. any (1 + extra) (λ k. strayAfter p bytes capture table c (t + k))) before n after →
+      Left (λ c. strayIn p bytes capture table c i) before n after
   unfolding strayIn
   left-part i extra t h z m =
       left-same (λ c. rw (h .extra-is, h .start-is, lt-ltb 0 (insertedAfter (basesFor p) i) (omega (arith, h .extra-is)))) m
@@ -48,12 +61,25 @@ module _ (p : Plan) (bytes : ℕ) (capture table : List ℕ) where
       left-all (λ c. rw (le-ltb 0 (insertedAfter (basesFor p) i) (omega (arith, h .extra-is))))
 
   -- the last vector of a part, and the next base vector
-  pub left-last : {before between after : List ℕ} {n : ℕ} (t k extra : ℕ) (f g : ℕ → Bool) → k ≡ extra → f ≡ valueAt p (t + k) → g ≡ valueAt p (t + extra + 1) → Left (λ c. any k (λ j. strayAfter p bytes capture table c (t + j))) before n between → Left (strayAt capture ((t + extra) * bytes) ((t + extra + 1) * bytes) (unlike f g) table) between n after → Left (λ c. any (1 + extra) (λ j. strayAfter p bytes capture table c (t + j))) before n after
+  pub left-last :
+      {before between after : List ℕ} {n : ℕ} (t k extra : ℕ) (f g : ℕ → Bool) →
+      k ≡ extra →
+      f ≡ valueAt p (t + k) →
+      g ≡ valueAt p (t + extra + 1) →
+      Left (λ c. any k (λ j. strayAfter p bytes capture table c (t + j))) before n between →
+      Left (strayAt capture ((t + extra) * bytes) ((t + extra + 1) * bytes) (unlike f g) table) between n after →
+      Left (λ c. any (1 + extra) (λ j. strayAfter p bytes capture table c (t + j))) before n after
   left-last t k extra f g e a b m r =
-      left-same (λ c. ap (λ (x : ℕ). any x (λ j. strayAfter p bytes capture table c (t + j))) (let s : k + 1 ≡ 1 + extra = omega arith in s)) (left-next t k (t + extra) f g (ap (λ (x : ℕ). t + x) e) (a ∙ ap (λ (x : ℕ). valueAt p (t + x)) e) b m r)
+      left-same
+      (λ c. ap (λ (x : ℕ). any x (λ j. strayAfter p bytes capture table c (t + j))) (let s : k + 1 ≡ 1 + extra = omega arith in s))
+      (left-next t k (t + extra) f g (ap (λ (x : ℕ). t + x) e) (a ∙ ap (λ (x : ℕ). valueAt p (t + x)) e) b m r)
 
   -- one part more
-  pub left-parts : {before between after : List ℕ} {n : ℕ} (i : ℕ) → Left (λ c. any i (strayIn p bytes capture table c)) before n between → Left (λ c. strayIn p bytes capture table c i) between n after → Left (λ c. any (i + 1) (strayIn p bytes capture table c)) before n after
+  pub left-parts :
+      {before between after : List ℕ} {n : ℕ} (i : ℕ) →
+      Left (λ c. any i (strayIn p bytes capture table c)) before n between →
+      Left (λ c. strayIn p bytes capture table c i) between n after →
+      Left (λ c. any (i + 1) (strayIn p bytes capture table c)) before n after
   unfolding any
   left-parts i m r = rw (add-one i) (left-then m r)
 
@@ -61,14 +87,28 @@ module _ (p : Plan) (bytes : ℕ) (capture table : List ℕ) where
   unfolding any
   left-no-part before n = left-all (λ c. refl)
 
-  pub left-first : {before after : List ℕ} {n : ℕ} (i wide : ℕ) → Left (λ c. any i (strayIn p bytes capture table c)) before n after → i ≡ wide → Left (λ c. any wide (strayIn p bytes capture table c)) before n after
+  pub left-first :
+      {before after : List ℕ} {n : ℕ} (i wide : ℕ) →
+      Left (λ c. any i (strayIn p bytes capture table c)) before n after →
+      i ≡ wide →
+      Left (λ c. any wide (strayIn p bytes capture table c)) before n after
   left-first i wide m e = left-same (λ c. ap (λ (x : ℕ). any x (strayIn p bytes capture table c)) e) m
 
   -- the first group and the later ones
-  pub left-lost : {before between after : List ℕ} {n : ℕ} (first vectors : ℕ) → first ≡ period p → vectors ≡ length (stepsOf (basesFor p)) → Left (λ c. any (p .wide) (strayIn p bytes capture table c)) before n between → Left (λ c. any (vectors - first) (otherLater first bytes capture c)) between n after → Left (lost p bytes capture table) before n after
+  pub left-lost :
+      {before between after : List ℕ} {n : ℕ} (first vectors : ℕ) →
+      first ≡ period p →
+      vectors ≡ length (stepsOf (basesFor p)) →
+      Left (λ c. any (p .wide) (strayIn p bytes capture table c)) before n between →
+      Left (λ c. any (vectors - first) (otherLater first bytes capture c)) between n after →
+      Left (lost p bytes capture table) before n after
   unfolding lost
   left-lost first vectors e h m r =
-      left-same (λ c. swap (any (vectors - first) (otherLater first bytes capture c)) (any (p .wide) (strayIn p bytes capture table c)) ∙ ap₂ (λ (x y : ℕ). any (p .wide) (strayIn p bytes capture table c) || any (y - x) (otherLater x bytes capture c)) e h) (left-then m r)
+      left-same
+      (λ c.
+      swap (any (vectors - first) (otherLater first bytes capture c)) (any (p .wide) (strayIn p bytes capture table c))
+      ∙ ap₂ (λ (x y : ℕ). any (p .wide) (strayIn p bytes capture table c) || any (y - x) (otherLater x bytes capture c)) e h)
+      (left-then m r)
     where
       swap : (a b : Bool) → (a || b) ≡ (b || a)
       swap true true = refl
@@ -88,7 +128,12 @@ module _ (first bytes : ℕ) (capture table : List ℕ) where
       anyhow true (suc n) = refl
       anyhow false entry = refl
 
-  pub left-later : {before between after : List ℕ} {n : ℕ} (u : ℕ) (none : ℕ → Bool) → none ≡ nothing → Left (λ c. any u (otherLater first bytes capture c)) before n between → Left (strayAt capture ((first + u) * bytes) (u * bytes) none table) between n after → Left (λ c. any (u + 1) (otherLater first bytes capture c)) before n after
+  pub left-later :
+      {before between after : List ℕ} {n : ℕ} (u : ℕ) (none : ℕ → Bool) →
+      none ≡ nothing →
+      Left (λ c. any u (otherLater first bytes capture c)) before n between →
+      Left (strayAt capture ((first + u) * bytes) (u * bytes) none table) between n after →
+      Left (λ c. any (u + 1) (otherLater first bytes capture c)) before n after
   unfolding any
   left-later u none z m r =
       rw (add-one u)
@@ -98,7 +143,11 @@ pub left-no-later : (first bytes : ℕ) (capture before : List ℕ) (n : ℕ) �
 unfolding any
 left-no-later first bytes capture before n = left-all (λ c. refl)
 
-pub left-laters : {before after : List ℕ} {n : ℕ} (first bytes : ℕ) (capture : List ℕ) (u more : ℕ) → Left (λ c. any u (otherLater first bytes capture c)) before n after → u ≡ more → Left (λ c. any more (otherLater first bytes capture c)) before n after
+pub left-laters :
+    {before after : List ℕ} {n : ℕ} (first bytes : ℕ) (capture : List ℕ) (u more : ℕ) →
+    Left (λ c. any u (otherLater first bytes capture c)) before n after →
+    u ≡ more →
+    Left (λ c. any more (otherLater first bytes capture c)) before n after
 left-laters first bytes capture u more m e = left-same (λ c. ap (λ (x : ℕ). any x (otherLater first bytes capture c)) e) m
 
 -- where the vectors of a part stand
@@ -111,7 +160,7 @@ module _ (p : Plan) (capture : List ℕ) (bytes : ℕ) (w : Rowed p capture byte
       let e : i + 1 ≡ suc i = omega arith in
       omega (arith, ap (startOf p) e)
 
-  pub next-row : (k : ℕ) → k ≤ extra → ((t + k + 1) * bytes + bytes ≤ length capture) × (t + k ≤ 4096)
+  pub next-row : (k : ℕ) → k ≤ extra → ((t + k + 1) * bytes + bytes ≤ length capture) × (t + k ≤ mostVectors)
   next-row k l =
       let b = last-below in
       let v = w .vectors in

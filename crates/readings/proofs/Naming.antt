@@ -11,6 +11,7 @@ use lib.Dec.{ltb, eqb}
 use lib.ListN.{length, getD, replicate, length-replicate}
 use Rattle.rules.specs.Basics.{bit, ceil, rowBytes, word}
 use Rattle.rules.specs.File.{byteAt}
+use Rattle.rules.specs.Refusals.{mostBytes}
 use Rattle.rules.specs.Vectors.{stepsOf}
 use Rattle.rules.proofs.Digits.{bit-word}
 use Rattle.rules.proofs.Tests.{same-test, order}
@@ -37,12 +38,18 @@ all-left n c l =
     ap (λ (x : ℕ). bit x (c % 8)) (full-at n (0 + c / 8) (omega arith)) ∙ full-bit (c % 8) (omega arith)
 
 -- the entries beside those of cells are still 0, so there is one for each bit of a row
-pub own-lent : (p : Plan) (capture before coded own : List ℕ) (cells bytes : ℕ) → Captured p capture cells bytes → Entries 0 (8 * rowBytes cells) before → Mapped (codeFrom p bytes capture (p .wide)) before cells coded → Mapped (λ c code. cond (ltb (p .nets) code) 0 code) coded cells own → Lent bytes own (replicate 128 255)
+pub own-lent :
+    (p : Plan) (capture before coded own : List ℕ) (cells bytes : ℕ) →
+    Captured p capture cells bytes →
+    Entries 0 (8 * rowBytes cells) before →
+    Mapped (codeFrom p bytes capture (p .wide)) before cells coded →
+    Mapped (λ c code. cond (ltb (p .nets) code) 0 code) coded cells own →
+    Lent bytes own (replicate mostBytes 255)
 unfolding rowBytes ceil
 own-lent p capture before coded own cells bytes k z m o =
     record {
       entries = record { long = (let a = z .long in omega (arith, k .bytes-are, m .long, o .long)); low = low };
-      room = (let f = k .few in omega (arith, k .bytes-are, length-replicate {A = ℕ} 128 255));
+      room = (let f = k .few in omega (arith, k .bytes-are, length-replicate {A = ℕ} mostBytes 255));
     }
   where
     low : (c : ℕ) → c < 8 * bytes → getD own c 0 ≤ 64 * netWords
@@ -54,7 +61,12 @@ own-lent p capture before coded own cells bytes k z m o =
 
 module _ (p : Plan) (capture : List ℕ) (cells bytes : ℕ) (k : Captured p capture cells bytes) (own : List ℕ) (c code : ℕ) where
   -- the code of a cell that is left is the net's whose own word it reads
-  names : (n : ℕ) → n < p .nets → code ≡ codeFrom p bytes capture (p .wide) c 0 → getD own c 0 ≡ cond (ltb (p .nets) code) 0 code → eqb (cond (not (lost p bytes capture own c)) (getD own c 0) 0) (suc n) ≡ readBelow p bytes capture (length (stepsOf (basesFor p))) n c
+  names :
+      (n : ℕ) →
+      n < p .nets →
+      code ≡ codeFrom p bytes capture (p .wide) c 0 →
+      getD own c 0 ≡ cond (ltb (p .nets) code) 0 code →
+      eqb (cond (not (lost p bytes capture own c)) (getD own c 0) 0) (suc n) ≡ readBelow p bytes capture (length (stepsOf (basesFor p))) n c
   names n l e o = same-test _ _ (λ h. there (lost p bytes capture own c) refl (eqb-true _ _ h)) here
     where
       own-code : (x : ℕ) → cond (ltb (p .nets) x) 0 x ≡ suc n → x ≡ suc n
@@ -77,7 +89,15 @@ module _ (p : Plan) (capture : List ℕ) (cells bytes : ℕ) (k : Captured p cap
           rw (reads-left p capture cells bytes k own n c l entry r, entry) (eq-eqb (suc n) (suc n) refl)
 
 -- the table that is left of the codes
-pub all-read : (p : Plan) (capture before coded own left after : List ℕ) (cells bytes : ℕ) → Captured p capture cells bytes → Entries 0 (8 * rowBytes cells) before → Mapped (codeFrom p bytes capture (p .wide)) before cells coded → Mapped (λ c code. cond (ltb (p .nets) code) 0 code) coded cells own → Left (lost p bytes capture own) (replicate 128 255) (8 * bytes) left → Mapped (λ c entry. cond (seenAt left 0 c) entry 0) own cells after → Read p capture before cells after
+pub all-read :
+    (p : Plan) (capture before coded own left after : List ℕ) (cells bytes : ℕ) →
+    Captured p capture cells bytes →
+    Entries 0 (8 * rowBytes cells) before →
+    Mapped (codeFrom p bytes capture (p .wide)) before cells coded →
+    Mapped (λ c code. cond (ltb (p .nets) code) 0 code) coded cells own →
+    Left (lost p bytes capture own) (replicate mostBytes 255) (8 * bytes) left →
+    Mapped (λ c entry. cond (seenAt left 0 c) entry 0) own cells after →
+    Read p capture before cells after
 unfolding rowBytes ceil
 all-read p capture before coded own left after cells bytes k z m o f r =
     record { long = r .long ∙ o .long ∙ m .long; low = low; reads = reads; rest = λ c l. r .rest c l ∙ o .rest c l ∙ m .rest c l }
@@ -91,7 +111,7 @@ all-read p capture before coded own left after cells bytes k z m o f r =
     left-at : (c : ℕ) → c < cells → seenAt left 0 c ≡ not (lost p bytes capture own c)
     left-at c l =
         let few = k .few in
-        f .done c (omega (arith, k .bytes-are)) ∙ ap (λ (a : Bool). a && not (lost p bytes capture own c)) (all-left 128 c (omega arith))
+        f .done c (omega (arith, k .bytes-are)) ∙ ap (λ (a : Bool). a && not (lost p bytes capture own c)) (all-left mostBytes c (omega arith))
 
     entry : (c : ℕ) → c < cells → getD after c 0 ≡ cond (not (lost p bytes capture own c)) (getD own c 0) 0
     entry c l = r .done c l ∙ ap (λ (a : Bool). cond a (getD own c 0) 0) (left-at c l)

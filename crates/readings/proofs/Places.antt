@@ -6,6 +6,8 @@ use mathlib.Core.List.{List}
 use native.Mathlib.Omega.{arith}
 use lib.ListN.{length}
 use Rattle.rules.specs.Basics.{ceil, rowBytes}
+use Rattle.rules.specs.File.{numberValues}
+use Rattle.rules.specs.Refusals.{mostVectors, mostBytes}
 use Rattle.rules.specs.Vectors.{insertedAfter, stepsOf}
 use Rattle.plan.specs.declared.steps.Plan.{Plan}
 use Rattle.plan.specs.Plans.{basesFor, mix}
@@ -43,7 +45,7 @@ part-below p i k t l e h =
 pub row-in : (t vectors bytes long : ℕ) → t < vectors → long ≡ vectors * bytes → t * bytes + bytes ≤ long
 row-in t vectors bytes long l e = row-fits t vectors bytes bytes (t * bytes) long l refl (omega (arith, e)) refl
 
-pub place-in : (t vectors bytes : ℕ) → t < vectors → vectors ≤ 4096 → bytes ≤ 128 → t * bytes ≤ 65536 * 128
+pub place-in : (t vectors bytes : ℕ) → t < vectors → vectors ≤ mostVectors → bytes ≤ mostBytes → t * bytes ≤ numberValues * mostBytes
 place-in t vectors bytes l few short = omega (arith, place-small t bytes (omega arith) short)
 
 -- the same of the row of vector t
@@ -56,7 +58,7 @@ module _ (p : Plan) (capture : List ℕ) (bytes : ℕ) (k : Rowed p capture byte
   pub row-inside : (t : ℕ) → t < length (stepsOf (basesFor p)) → t * bytes + bytes ≤ length capture
   row-inside t l = row-in t _ bytes _ l (k .rows-are)
 
-  pub place-low : (t : ℕ) → t < length (stepsOf (basesFor p)) → t * bytes ≤ 65536 * 128
+  pub place-low : (t : ℕ) → t < length (stepsOf (basesFor p)) → t * bytes ≤ numberValues * mostBytes
   place-low t l = place-in t _ bytes l (k .vectors) (k .short)
 
 pub row-scanned : (p : Plan) (capture : List ℕ) (cells bytes : ℕ) → Captured p capture cells bytes → (t : ℕ) → t < length (stepsOf (basesFor p)) → Scanned capture (t * bytes) cells
@@ -64,7 +66,14 @@ row-scanned p capture cells bytes k t l =
     record { inside = omega (arith, row-inside p capture bytes (rowed p capture cells bytes k) t l, k .bytes-are) }
 
 -- the values of the k-th vector of a part
-pub part-value : (p : Plan) (i extra t k : ℕ) (old new f : ℕ → Bool) → Part p i extra t → k < 1 + extra → old ≡ basesFor p .value i → new ≡ basesFor p .value (i + 1) → f ≡ mix (k * p .limit) old new → f ≡ valueAt p (t + k)
+pub part-value :
+    (p : Plan) (i extra t k : ℕ) (old new f : ℕ → Bool) →
+    Part p i extra t →
+    k < 1 + extra →
+    old ≡ basesFor p .value i →
+    new ≡ basesFor p .value (i + 1) →
+    f ≡ mix (k * p .limit) old new →
+    f ≡ valueAt p (t + k)
 unfolding valueAt
 part-value p i extra t k old new f h l o n m =
     value-at p (t + k) i k old new f (h .below) (omega (arith, h .start-is, start-is p i)) (omega (arith, h .extra-is)) o n m

@@ -10,7 +10,7 @@ use lib.Bits.{bitAnd, bitXor}
 use lib.ListN.{length, getD, set, length-set}
 use lib.Seq.{getD-set-same, getD-set-other}
 use Rattle.rules.specs.Basics.{bit, word, digit}
-use Rattle.rules.specs.File.{byteAt}
+use Rattle.rules.specs.File.{byteAt, byteValues}
 use Rattle.rules.proofs.Digits.{word-same, word-bits, bit-word}
 use Rattle.rules.proofs.Tests.{order}
 use Rattle.words.proofs.Words.{bit-and, bit-xor, bit-zero}
@@ -39,7 +39,7 @@ differs true false s r e f h = absurd (true≢false f)
 differs false b s r e f h = absurd (true≢false e)
 
 -- where no digit is both left and unlike, all stay
-pub all-stay : (left unlike : ℕ) (changing : ℕ → Bool) (table : List ℕ) (first : ℕ) → left < 256 → bitAnd left unlike ≡ 0 → left ≡ word 8 (staying left unlike changing table first)
+pub all-stay : (left unlike : ℕ) (changing : ℕ → Bool) (table : List ℕ) (first : ℕ) → left < byteValues → bitAnd left unlike ≡ 0 → left ≡ word 8 (staying left unlike changing table first)
 unfolding staying
 all-stay left unlike changing table first l e =
     sym (word-bits 8 left l)
@@ -59,7 +59,10 @@ pub word-start : (f : ℕ → Bool) → 0 ≡ word 0 f
 unfolding word
 word-start f = refl
 
-pub stays-at : (left unlike i first : ℕ) (changing : ℕ → Bool) (table : List ℕ) (r : Bool) → r ≡ (bit left i && not (bit unlike i && stray changing (getD table (first + i) 0))) → r ≡ staying left unlike changing table first i
+pub stays-at :
+    (left unlike i first : ℕ) (changing : ℕ → Bool) (table : List ℕ) (r : Bool) →
+    r ≡ (bit left i && not (bit unlike i && stray changing (getD table (first + i) 0))) →
+    r ≡ staying left unlike changing table first i
 unfolding staying
 stays-at left unlike i first changing table r e = e
 
@@ -70,7 +73,13 @@ digits-all i kept f e h = e ∙ ap (λ (k : ℕ). word k f) h
 pub left-none : {lost : ℕ → Bool} (before : List ℕ) → Left lost before 0 before
 left-none before = record { long = refl; done = λ c l. absurd (omega arith); rest = λ c l. refl }
 
-module _ (lost : ℕ → Bool) (before after : List ℕ) (j x : ℕ) (m : Left lost before (8 * j) after) (room : j < length before) (byte : (i : ℕ) → i < 8 → bit x i ≡ (bit (getD after j 0) i && not (lost (8 * j + i)))) where
+module _
+    (lost : ℕ → Bool)
+    (before after : List ℕ)
+    (j x : ℕ)
+    (m : Left lost before (8 * j) after)
+    (room : j < length before)
+    (byte : (i : ℕ) → i < 8 → bit x i ≡ (bit (getD after j 0) i && not (lost (8 * j + i)))) where
   -- a cell of byte j, and one of another
   own : (c : ℕ) → 8 * j ≤ c → c < 8 * (j + 1) → seenAt (set after j x) 0 c ≡ (seenAt before 0 c && not (lost c))
   unfolding seenAt byteAt
@@ -127,7 +136,13 @@ pub left-upto : {f : ℕ → Bool} {before after : List ℕ} {n m : ℕ} → Lef
 left-upto {f} {before} {after} h e = subst (λ (x : ℕ). Left f before x after) e h
 
 -- the digits of the byte that `sift` gives
-sifted : (capture table after : List ℕ) (at other j x unlike : ℕ) (changing : ℕ → Bool) → unlike ≡ bitXor (getD capture (at + j) 0) (getD capture (other + j) 0) → x ≡ word 8 (staying (getD after j 0) unlike changing table (8 * j)) → (i : ℕ) → i < 8 → bit x i ≡ (bit (getD after j 0) i && not (strayAt capture at other changing table (8 * j + i)))
+sifted :
+    (capture table after : List ℕ) (at other j x unlike : ℕ) (changing : ℕ → Bool) →
+    unlike ≡ bitXor (getD capture (at + j) 0) (getD capture (other + j) 0) →
+    x ≡ word 8 (staying (getD after j 0) unlike changing table (8 * j)) →
+    (i : ℕ) →
+    i < 8 →
+    bit x i ≡ (bit (getD after j 0) i && not (strayAt capture at other changing table (8 * j + i)))
 unfolding staying strayAt seenAt byteAt
 sifted capture table after at other j x unlike changing u e i l =
     let q : (8 * j + i) / 8 ≡ j = omega arith in
@@ -136,11 +151,21 @@ sifted capture table after at other j x unlike changing u e i l =
     ∙ bit-word 8 _ i l
     ∙ rw (q, s, u, bit-xor)
 
-pub left-byte : (capture table before after : List ℕ) (at other j : ℕ) (changing : ℕ → Bool) (x unlike : ℕ) → Left (strayAt capture at other changing table) before (8 * j) after → j < length before → unlike ≡ bitXor (getD capture (at + j) 0) (getD capture (other + j) 0) → x ≡ word 8 (staying (getD after j 0) unlike changing table (8 * j)) → Left (strayAt capture at other changing table) before (8 * (j + 1)) (set after j x)
+pub left-byte :
+    (capture table before after : List ℕ) (at other j : ℕ) (changing : ℕ → Bool) (x unlike : ℕ) →
+    Left (strayAt capture at other changing table) before (8 * j) after →
+    j < length before →
+    unlike ≡ bitXor (getD capture (at + j) 0) (getD capture (other + j) 0) →
+    x ≡ word 8 (staying (getD after j 0) unlike changing table (8 * j)) →
+    Left (strayAt capture at other changing table) before (8 * (j + 1)) (set after j x)
 left-byte capture table before after at other j changing x unlike m l u e =
     left-more (strayAt capture at other changing table) before after j x m l (sifted capture table after at other j x unlike changing u e)
 
-pub left-changing : (capture table before after : List ℕ) (at other n : ℕ) (f g : ℕ → Bool) → f ≡ g → Left (strayAt capture at other f table) before n after → Left (strayAt capture at other g table) before n after
+pub left-changing :
+    (capture table before after : List ℕ) (at other n : ℕ) (f g : ℕ → Bool) →
+    f ≡ g →
+    Left (strayAt capture at other f table) before n after →
+    Left (strayAt capture at other g table) before n after
 left-changing capture table before after at other n f g e m =
     subst (λ (h : ℕ → Bool). Left (strayAt capture at other h table) before n after) e m
 

@@ -6,7 +6,8 @@ use mathlib.Core.List.{List}
 use lib.Dec.{eqb, ltb}
 use lib.ListN.{length, getD}
 use Rattle.rules.specs.Basics.{all, any, bit, digit, rowBytes}
-use Rattle.rules.specs.File.{byteAt}
+use Rattle.rules.specs.File.{byteAt, mostNumber}
+use Rattle.rules.specs.Refusals.{mostCells, mostVectors, mostBytes, mostWidth}
 use Rattle.rules.specs.Vectors.{insertedAfter, between, weave, stepsOf, vectorOf}
 use Rattle.rules.specs.declared.Step.the-variants.{Base}
 use Rattle.words.specs.Sets.{netWords, unlike}
@@ -91,6 +92,10 @@ pub record Left (lost : ℕ → Bool) (before : List ℕ) (n : ℕ) (after : Lis
 pub record Scanned (capture : List ℕ) (at cells : ℕ) : Type 0 where
   pub inside : at + rowBytes cells ≤ length capture
 
+-- a code of two bytes with room for one bit more
+abbrev pub mostHalf : ℕ
+mostHalf = mostNumber / 2
+
 -- a table with an entry for each cell, none above `most`
 pub record Entries (most cells : ℕ) (table : List ℕ) : Type 0 where
   pub long : cells ≤ length table
@@ -99,25 +104,25 @@ pub record Entries (most cells : ℕ) (table : List ℕ) : Type 0 where
 -- a capture of all vectors of a plan, and loose bounds within which no place overflows
 pub record Captured (plan : Plan) (capture : List ℕ) (cells bytes : ℕ) : Type 0 where
   pub small : Small plan
-  pub narrow : plan .wide ≤ 9
+  pub narrow : plan .wide ≤ mostWidth
   pub coded : plan .nets + 2 ≤ 2 ^ plan .wide
-  pub few : cells ≤ 1024
+  pub few : cells ≤ mostCells
   pub bytes-are : bytes ≡ rowBytes cells
-  pub vectors : length (stepsOf (basesFor plan)) ≤ 4096
+  pub vectors : length (stepsOf (basesFor plan)) ≤ mostVectors
   pub rows-are : length capture ≡ length (stepsOf (basesFor plan)) * bytes
 
 -- what of this the rows themselves need
 pub record Rowed (plan : Plan) (capture : List ℕ) (bytes : ℕ) : Type 0 where
   pub small : Small plan
-  pub short : bytes ≤ 128
-  pub vectors : length (stepsOf (basesFor plan)) ≤ 4096
+  pub short : bytes ≤ mostBytes
+  pub vectors : length (stepsOf (basesFor plan)) ≤ mostVectors
   pub rows-are : length capture ≡ length (stepsOf (basesFor plan)) * bytes
 
 -- a capture of so many vectors, the first group of which ends at `first`
 pub record Later (capture : List ℕ) (first vectors bytes : ℕ) : Type 0 where
-  pub short : bytes ≤ 128
-  pub few : vectors ≤ 4096
-  pub ends : first ≤ 4096
+  pub short : bytes ≤ mostBytes
+  pub few : vectors ≤ mostVectors
+  pub ends : first ≤ mostVectors
   pub rows-are : length capture ≡ vectors * bytes
 
 -- entries for the bits of so many bytes, none above the number of nets, and as many bytes for the cells that are left

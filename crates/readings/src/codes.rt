@@ -5,14 +5,14 @@ ghost use lib.Dec.{ltb};
 ghost use Prim.Native.Nat.{_≤_, _*_, _+_};
 ghost use lib.ListN.{length};
 ghost use Rattle.rules.specs.Basics.{digit};
-ghost use Rattle.readings.specs.Readings.{seenAt, codeFrom, Mapped, Scanned, Entries, Captured};
+ghost use Rattle.readings.specs.Readings.{seenAt, codeFrom, mostHalf, Mapped, Scanned, Entries, Captured};
 use crate::scan::seen;
 use plan::steps::Plan;
 use plan::steps::extra_after;
 
 // A code with one bit more.
 fn add_digit(read: bool, code: u16) -> u16
-    requires { ⌜ code ≤ 16383 ⌝ }
+    requires { ⌜ code ≤ mostHalf ⌝ }
     ensures { λ r. ⌜ r ≡ 2 * code + digit read ⌝ }
 {
     if read {
@@ -24,7 +24,7 @@ fn add_digit(read: bool, code: u16) -> u16
 // Each cell's code, with what it read in the row from `at` on.
 fn add_row(capture: &[u8], at: usize, cells: usize, table: &mut [u16])
     requires { ⌜ Scanned (now capture) at cells ⌝ }
-    requires { ⌜ Entries 16383 cells (now table) ⌝ }
+    requires { ⌜ Entries mostHalf cells (now table) ⌝ }
     ensures { λ r. ⌜ Mapped (λ c code. 2 * code + digit (seenAt (now (capture .entry)) at c)) (now (table .entry)) cells (now (table .exit)) ⌝ }
 {
     let mut c = 0;

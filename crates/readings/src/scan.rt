@@ -79,23 +79,28 @@ fn sift(left: u8, unlike: u8, table: &[u16], first: usize, changing: NetSet) -> 
     kept
 }
 
-// The cells that are left after two rows between which these nets change.
+// Two rows of a capture to be held against each other, by where they begin. Two numbers are handed over in registers, three are not.
+pub(crate) struct Rows {
+    pub(crate) at: usize,
+    pub(crate) other: usize,
+}
+
+// The cells that are left after two rows of so many bytes, between which these nets change.
 pub(crate) fn check_rows(
     capture: &[u8],
-    at: usize,
-    other: usize,
+    rows: Rows,
     bytes: usize,
     changing: NetSet,
     table: &[u16],
     left: &mut [u8],
 )
-    requires { ⌜ (at + bytes ≤ length (now capture)) × (other + bytes ≤ length (now capture)) ⌝ }
+    requires { ⌜ (rows .at + bytes ≤ length (now capture)) × (rows .other + bytes ≤ length (now capture)) ⌝ }
     requires { ⌜ Lent bytes (now table) (now left) ⌝ }
-    ensures { λ r. ⌜ Left (strayAt (now (capture .entry)) at other (member (changing .words)) (now (table .entry))) (now (left .entry)) (8 * bytes) (now (left .exit)) ⌝ }
+    ensures { λ r. ⌜ Left (strayAt (now (capture .entry)) (rows .at) (rows .other) (member (changing .words)) (now (table .entry))) (now (left .entry)) (8 * bytes) (now (left .exit)) ⌝ }
 {
     let mut j = 0;
     while j < bytes {
-        let unlike = capture[at + j] ^ capture[other + j];
+        let unlike = capture[rows.at + j] ^ capture[rows.other + j];
         left[j] = sift(left[j], unlike, table, 8 * j, changing);
         j += 1;
     }

@@ -5,10 +5,12 @@ ghost use mathlib.Core.Bool.{cond};
 ghost use Prim.Native.Nat.{_+_, _*_, _-_, _≤_, _<_};
 ghost use lib.ListN.{length};
 ghost use Rattle.rules.specs.Basics.{any, rowBytes};
+ghost use Rattle.rules.specs.Refusals.{mostVectors};
 ghost use Rattle.words.specs.Sets.{member, unlike};
 ghost use Rattle.readings.specs.Readings.{seenAt, period, strayAt, strayAfter, strayIn, otherLater, lost, Mapped, Entries, Left, Captured, Rowed, Later, Lent, Part, Read};
 use crate::codes::own_codes;
 use crate::codes::read_codes;
+use crate::scan::Rows;
 use crate::scan::check_rows;
 use crate::scan::seen;
 use plan::steps::Plan;
@@ -17,89 +19,86 @@ use plan::steps::extra_after;
 use plan::steps::total;
 use plan::values::mixed;
 use rows::bytes::row_bytes;
+use rules::MOST_BYTES;
 use words::NetSet;
 
-// A row of 1,024 cells.
-const MOST_BYTES: usize = 128;
-
-// The cells that are left after vectors t and t + 1, whose nets have these values.
-fn check_next(
-    capture: &[u8],
+// Vector t of a capture, each of whose rows has so many bytes.
+struct Place {
     t: usize,
     bytes: usize,
+}
+
+// Part i of the plan: how many vectors are inserted after base vector i, and the vector at which the part begins.
+struct Span {
+    i: usize,
+    extra: usize,
+    start: usize,
+}
+
+// The cells that are left after this vector and the next, whose nets have these values.
+fn check_next(
+    capture: &[u8],
+    place: Place,
     before: NetSet,
     after: NetSet,
     table: &[u16],
     left: &mut [u8],
 )
-    requires { ⌜ (t + 1) * bytes + bytes ≤ length (now capture) ⌝ }
-    requires { ⌜ t ≤ 4096 ⌝ }
-    requires { ⌜ Lent bytes (now table) (now left) ⌝ }
-    ensures { λ r. ⌜ Left (strayAt (now (capture .entry)) (t * bytes) ((t + 1) * bytes) (unlike (member (before .words)) (member (after .words))) (now (table .entry))) (now (left .entry)) (8 * bytes) (now (left .exit)) ⌝ }
+    requires { ⌜ (place .t + 1) * place .bytes + place .bytes ≤ length (now capture) ⌝ }
+    requires { ⌜ place .t ≤ mostVectors ⌝ }
+    requires { ⌜ Lent (place .bytes) (now table) (now left) ⌝ }
+    ensures { λ r. ⌜ Left (strayAt (now (capture .entry)) (place .t * place .bytes) ((place .t + 1) * place .bytes) (unlike (member (before .words)) (member (after .words))) (now (table .entry))) (now (left .entry)) (8 * place .bytes) (now (left .exit)) ⌝ }
 {
     let changing = before.flip(after);
-    check_rows(
-        capture,
-        t * bytes,
-        (t + 1) * bytes,
-        bytes,
-        changing,
-        table,
-        left,
-    );
+    let rows = Rows {
+        at: place.t * place.bytes,
+        other: (place.t + 1) * place.bytes,
+    };
+    check_rows(capture, rows, place.bytes, changing, table, left);
 }
 
-// The cells that are left after the vectors inserted in part i, which begins at vector t: each is held against the one before it, and the
-// next base vector against the last.
+// The cells that are left after the vectors inserted in a part: each is held against the one before it, and the next base vector against
+// the last.
 fn check_inserted(
     capture: &[u8],
     plan: Plan,
-    i: usize,
-    extra: usize,
-    t: usize,
+    span: Span,
     bytes: usize,
     table: &[u16],
     left: &mut [u8],
 )
     requires { ⌜ Rowed plan (now capture) bytes ⌝ }
-    requires { ⌜ Part plan i extra t ⌝ }
-    requires { ⌜ 0 < extra ⌝ }
+    requires { ⌜ Part plan (span .i) (span .extra) (span .start) ⌝ }
+    requires { ⌜ 0 < span .extra ⌝ }
     requires { ⌜ Lent bytes (now table) (now left) ⌝ }
-    ensures { λ r. ⌜ Left (λ c. any (1 + extra) (λ k. strayAfter plan bytes (now (capture .entry)) (now (table .entry)) c (t + k))) (now (left .entry)) (8 * bytes) (now (left .exit)) ⌝ }
+    ensures { λ r. ⌜ Left (λ c. any (1 + span .extra) (λ k. strayAfter plan bytes (now (capture .entry)) (now (table .entry)) c (span .start + k))) (now (left .entry)) (8 * bytes) (now (left .exit)) ⌝ }
 {
-    let old = base_values(plan, i);
-    let new = base_values(plan, i + 1);
+    let old = base_values(plan, span.i);
+    let new = base_values(plan, span.i + 1);
     let mut values = old;
     let mut k = 0;
-    while k < extra {
+    while k < span.extra {
         let next = mixed(old, new, (k + 1) * plan.limit);
-        check_next(capture, t + k, bytes, values, next, table, left);
+        let t = span.start + k;
+        check_next(capture, Place { t, bytes }, values, next, table, left);
         values = next;
         k += 1;
     }
-    check_next(capture, t + extra, bytes, values, new, table, left);
+    let t = span.start + span.extra;
+    check_next(capture, Place { t, bytes }, values, new, table, left);
 }
 
-// The cells that are left after part i: its base vector and the next are right by the entries, so where nothing is inserted all stay.
-fn check_part(
-    capture: &[u8],
-    plan: Plan,
-    i: usize,
-    extra: usize,
-    t: usize,
-    bytes: usize,
-    table: &[u16],
-    left: &mut [u8],
-)
+// The cells that are left after a part: its base vector and the next are right by the entries, so where nothing is inserted all stay.
+fn check_part(capture: &[u8], plan: Plan, span: Span, bytes: usize, table: &[u16], left: &mut [u8])
     requires { ⌜ Rowed plan (now capture) bytes ⌝ }
-    requires { ⌜ Part plan i extra t ⌝ }
+    requires { ⌜ Part plan (span .i) (span .extra) (span .start) ⌝ }
     requires { ⌜ Lent bytes (now table) (now left) ⌝ }
-    ensures { λ r. ⌜ Left (λ c. strayIn plan bytes (now (capture .entry)) (now (table .entry)) c i) (now (left .entry)) (8 * bytes) (now (left .exit)) ⌝ }
+    ensures { λ r. ⌜ Left (λ c. strayIn plan bytes (now (capture .entry)) (now (table .entry)) c (span .i)) (now (left .entry)) (8 * bytes) (now (left .exit)) ⌝ }
 {
-    if extra == 0 {
+    if span.extra == 0 {
         return;
     }
-    check_inserted(capture, plan, i, extra, t, bytes, table, left);
+    check_inserted(capture, plan, span, bytes, table, left);
 }
 
 // The cells that are left after the first group, and where it ends.
@@ -113,7 +112,8 @@ fn check_first(capture: &[u8], plan: Plan, bytes: usize, table: &[u16], left: &m
     let mut i = 0;
     while i < plan.wide {
         let extra = extra_after(plan, i);
-        check_part(capture, plan, i, extra, t, bytes, table, left);
+        let span = Span { i, extra, start: t };
+        check_part(capture, plan, span, bytes, table, left);
         t += 1 + extra;
         i += 1;
     }
@@ -136,15 +136,11 @@ fn check_later(
     let none = NetSet::empty();
     let mut u = 0;
     while first + u < vectors {
-        check_rows(
-            capture,
-            (first + u) * bytes,
-            u * bytes,
-            bytes,
-            none,
-            table,
-            left,
-        );
+        let rows = Rows {
+            at: (first + u) * bytes,
+            other: u * bytes,
+        };
+        check_rows(capture, rows, bytes, none, table, left);
         u += 1;
     }
 }

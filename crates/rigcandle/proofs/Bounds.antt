@@ -5,7 +5,7 @@ use mathlib.Core.List.{List}
 use native.Mathlib.Omega.{arith}
 use borrow.Author.Tests.{ltb-false}
 use lib.ListN.{length}
-use Rattle.rules.specs.File.{boardOf}
+use Rattle.rules.specs.File.{boardOf, mostNumber}
 use Rattle.rules.specs.Refusals.{judge, boardChecks, countChecks, mostVectors}
 use Rattle.rules.specs.Vectors.{stepsOf, totalOf}
 use Rattle.rules.specs.declared.Verdict.the-variants.{Accepted}
@@ -15,16 +15,16 @@ use Rattle.plan.specs.Plans.{basesFor}
 use Rattle.plan.specs.Planning.{PlanOf}
 use Rattle.plan.proofs.Planned.{small-plan, groups-low, total-is}
 
-pub total-low : (file : List ℕ) → judge (countChecks file) ≡ Accepted → totalOf (boardOf file) ≤ 4096
+pub total-low : (file : List ℕ) → judge (countChecks file) ≡ Accepted → totalOf (boardOf file) ≤ mostVectors
 unfolding countChecks
 total-low file ok =
     ltb-false mostVectors (totalOf (boardOf file)) (append-pass (boardChecks file) _ (all-pass (countChecks file) ok) .1 .0 0 (omega arith))
 
-pub vectors-low : (file : List ℕ) (p : Plan) (t : ℕ) → judge (countChecks file) ≡ Accepted → PlanOf (boardOf file) p → t ≡ length (stepsOf (basesFor p)) → t ≤ 65535
+pub vectors-low : (file : List ℕ) (p : Plan) (t : ℕ) → judge (countChecks file) ≡ Accepted → PlanOf (boardOf file) p → t ≡ length (stepsOf (basesFor p)) → t ≤ mostNumber
 vectors-low file p t ok h e = let l = total-low file ok in omega (arith, e ∙ total-is (boardOf file) p h)
 
-pub groups-few : (file : List ℕ) (p : Plan) → judge (boardChecks file) ≡ Accepted → PlanOf (boardOf file) p → p .groups ≤ 65535
+pub groups-few : (file : List ℕ) (p : Plan) → judge (boardChecks file) ≡ Accepted → PlanOf (boardOf file) p → p .groups ≤ mostNumber
 groups-few file p ok h = let l = groups-low file ok in omega (arith, h .groups-are)
 
-pub wide-few : (file : List ℕ) (p : Plan) → judge (boardChecks file) ≡ Accepted → PlanOf (boardOf file) p → p .wide ≤ 65535
+pub wide-few : (file : List ℕ) (p : Plan) → judge (boardChecks file) ≡ Accepted → PlanOf (boardOf file) p → p .wide ≤ mostNumber
 wide-few file p ok h = let l = small-plan file ok p h .narrow in omega arith

@@ -9,9 +9,9 @@ use lib.Dec.{eqb}
 use lib.ListN.{replicate, length-replicate, length, getD}
 use Rattle.rules.specs.Answers.{over, pack, field, marksAnswer, marksOutcome}
 use Rattle.rules.specs.Basics.{all, bit, ceil, rowBytes, table}
-use Rattle.rules.specs.File.{Board, boardOf, byteAt, cellsOf, netsOf}
+use Rattle.rules.specs.File.{Board, boardOf, byteAt, cellsOf, netsOf, mostNumber}
 use Rattle.rules.specs.Marks.{readAt, ownAt, differsAt, byteOf, marksOf, bytesThat, isPass, isFail, isUnsure}
-use Rattle.rules.specs.Refusals.{judge, boardChecks, countChecks, marksChecks, mostCells}
+use Rattle.rules.specs.Refusals.{judge, boardChecks, countChecks, marksChecks, mostCells, mostWidth}
 use Rattle.rules.specs.Vectors.{Bases, codeWidth, widthOf, stepsOf, vectorOf, planOf, totalOf, vectorAt}
 use Rattle.rules.specs.declared.Step.the-variants.{Base}
 use Rattle.rules.specs.declared.Verdict.the-variants.{Accepted}
@@ -56,7 +56,7 @@ captured file p capture cells count ok h e l =
     let q = h .nets-are in
     let w = h .wide-are ∙ ap codeWidth (sym q) in
     let v = total-low file count in
-    record { small = small-plan file ok p h; narrow = rw w (width-low 9 (p .nets) (omega arith)); coded = rw w (width-least (p .nets) .0); few = omega arith; bytes-are = refl; vectors = omega (arith, total-is (boardOf file) p h); rows-are = l }
+    record { small = small-plan file ok p h; narrow = rw w (width-low mostWidth (p .nets) (omega arith)); coded = rw w (width-least (p .nets) .0); few = omega arith; bytes-are = refl; vectors = omega (arith, total-is (boardOf file) p h); rows-are = l }
 
 -- a capture of the right length
 pub whole-capture : (long x : ℕ) → not (eqb long x) ≡ false → long ≡ x
@@ -78,11 +78,11 @@ readings-of file p capture before after cells ok h e z r =
     record { checked = whole-file file ok; long = (let m = z .long in omega (arith, r .long)); nets = λ c l. (let q = r .low c (omega arith) in omega (arith, h .nets-are)) }
 
 -- no count is above the number of nets
-pub counts-low : (file readings : List ℕ) (counts : Counts) → judge (boardChecks file) ≡ Accepted → Counted (boardOf file) readings counts → (counts .pass ≤ 65535) × (counts .fail ≤ 65535) × (counts .unsure ≤ 65535)
+pub counts-low : (file readings : List ℕ) (counts : Counts) → judge (boardChecks file) ≡ Accepted → Counted (boardOf file) readings counts → (counts .pass ≤ mostNumber) × (counts .fail ≤ mostNumber) × (counts .unsure ≤ mostNumber)
 unfolding marksBy boardOf
 counts-low file readings counts ok k =
     let f = laid file (shaped file (whole-file file ok)) .nets .few in
-    let low : (test : ℕ → Bool) → bytesThat test (marksBy (boardOf file) readings) ≤ 65535 = λ test. (let l = bytes-few test (marksBy (boardOf file) readings) in omega (arith, length-table (netsOf file) (λ n. byteOf (markBy (boardOf file) readings n)))) in
+    let low : (test : ℕ → Bool) → bytesThat test (marksBy (boardOf file) readings) ≤ mostNumber = λ test. (let l = bytes-few test (marksBy (boardOf file) readings) in omega (arith, length-table (netsOf file) (λ n. byteOf (markBy (boardOf file) readings n)))) in
     (rw (k .pass) (low isPass), rw (k .fail) (low isFail), rw (k .unsure) (low isUnsure))
 
 -- the answer, by the marks that the readings give

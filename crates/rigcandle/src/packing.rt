@@ -3,8 +3,14 @@ ghost use mathlib.Core.Path.{_≡_};
 ghost use mathlib.Core.List.{_∷_, []};
 ghost use Prim.Native.Nat.{_≤_};
 ghost use Rattle.rules.specs.Answers.{pack, packed, field};
+ghost use Rattle.rules.specs.File.{mostNumber};
 use rules::Refusal;
 use rules::Verdict;
+
+// A field of 8 bits, and one of 16, moves what stands above it by so much.
+const EIGHT_BITS: u64 = 1 << 8;
+
+const SIXTEEN_BITS: u64 = 1 << 16;
 
 // A refusal: number, place and second place.
 fn refusal_bits(refusal: Refusal) -> u64
@@ -12,7 +18,7 @@ fn refusal_bits(refusal: Refusal) -> u64
 {
     let second = refusal.second as u64;
     let place = refusal.place as u64;
-    refusal.number as u64 + 256 * (place + 65536 * second)
+    refusal.number as u64 + EIGHT_BITS * (place + SIXTEEN_BITS * second)
 }
 
 // A verdict that refuses, as the answer's bits.
@@ -27,24 +33,24 @@ pub(crate) fn verdict_bits(verdict: Verdict) -> u64
 
 // One number of 8 bits: G, or a vector's group.
 pub(crate) fn group_bits(group: usize) -> u64
-    requires { ⌜ group ≤ 65535 ⌝ }
+    requires { ⌜ group ≤ mostNumber ⌝ }
     ensures { λ r. ⌜ r ≡ pack (field 8 0 ∷ field 8 group ∷ []) ⌝ }
 {
-    256 * group as u64
+    EIGHT_BITS * group as u64
 }
 
 // G, p and the total.
 pub(crate) fn count_bits(groups: usize, wide: usize, total: usize) -> u64
-    requires { ⌜ (groups ≤ 65535) × (wide ≤ 65535) × (total ≤ 65535) ⌝ }
+    requires { ⌜ (groups ≤ mostNumber) × (wide ≤ mostNumber) × (total ≤ mostNumber) ⌝ }
     ensures { λ r. ⌜ r ≡ pack (field 8 0 ∷ field 8 groups ∷ field 8 wide ∷ field 16 total ∷ []) ⌝ }
 {
-    256 * (groups as u64 + 256 * (wide as u64 + 256 * total as u64))
+    EIGHT_BITS * (groups as u64 + EIGHT_BITS * (wide as u64 + EIGHT_BITS * total as u64))
 }
 
 // The numbers of pass, fail and unsure.
 pub(crate) fn marks_bits(pass: usize, fail: usize, unsure: usize) -> u64
-    requires { ⌜ (pass ≤ 65535) × (fail ≤ 65535) × (unsure ≤ 65535) ⌝ }
+    requires { ⌜ (pass ≤ mostNumber) × (fail ≤ mostNumber) × (unsure ≤ mostNumber) ⌝ }
     ensures { λ r. ⌜ r ≡ pack (field 8 0 ∷ field 16 pass ∷ field 16 fail ∷ field 16 unsure ∷ []) ⌝ }
 {
-    256 * (pass as u64 + 65536 * (fail as u64 + 65536 * unsure as u64))
+    EIGHT_BITS * (pass as u64 + SIXTEEN_BITS * (fail as u64 + SIXTEEN_BITS * unsure as u64))
 }

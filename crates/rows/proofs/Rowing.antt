@@ -9,9 +9,9 @@ use native.Mathlib.Omega.{arith}
 use lib.ListN.{length, length-append, length-drop}
 use Rattle.rules.specs.Answers.{over}
 use Rattle.rules.specs.Basics.{ceil, rowBytes, rowOf}
-use Rattle.rules.specs.File.{Board, boardOf, cellsOf}
+use Rattle.rules.specs.File.{Board, boardOf, cellsOf, mostNumber, numberValues}
 use Rattle.rules.specs.Groups.{selected, earlier, onIn, groupRow, groupRows}
-use Rattle.rules.specs.Refusals.{judge, boardChecks}
+use Rattle.rules.specs.Refusals.{judge, boardChecks, mostCells, mostBytes}
 use Rattle.rules.specs.declared.Verdict.the-variants.{Accepted}
 use Rattle.rules.proofs.Digits.{row-length}
 use Rattle.rules.proofs.Selection.{sound}
@@ -90,9 +90,9 @@ pub written-all : {b : Board} {g groups : ℕ} {before after : List ℕ} → Wri
 written-all {b} {before = before} w e = w .so-far ∙ ap (λ (x : ℕ). over (groupRows b x) before) e
 
 -- a place is a small number
-pub place-small : (g bytes : ℕ) → g ≤ 65535 → bytes ≤ 128 → g * bytes + bytes ≤ 65536 * 128
-place-small g bytes l few = let all = le-trans (mul-le-mul-left g few) (mul-le-mul-right 128 l) in omega arith
+pub place-small : (g bytes : ℕ) → g ≤ mostNumber → bytes ≤ mostBytes → g * bytes + bytes ≤ numberValues * mostBytes
+place-small g bytes l few = let all = le-trans (mul-le-mul-left g few) (mul-le-mul-right mostBytes l) in omega arith
 
-pub place-low : (g bytes cells at : ℕ) → g ≤ 65535 → cells ≤ 1024 → bytes ≡ rowBytes cells → at ≡ g * bytes → at + bytes ≤ 65536 * 128
+pub place-low : (g bytes cells at : ℕ) → g ≤ mostNumber → cells ≤ mostCells → bytes ≡ rowBytes cells → at ≡ g * bytes → at + bytes ≤ numberValues * mostBytes
 unfolding rowBytes ceil
 place-low g bytes cells at l m e a = omega (arith, a, place-small g bytes l (omega (arith, e)))

@@ -5,7 +5,7 @@ use mathlib.Core.Bool.{Bool, false}
 use mathlib.Core.List.{List, _++_}
 use lib.ListN.{length, take, drop}
 use Rattle.rules.specs.Basics.{rowBytes}
-use Rattle.rules.specs.File.{boardOf, cellsOf}
+use Rattle.rules.specs.File.{boardOf, cellsOf, mostNumber}
 use Rattle.rules.specs.Vectors.{totalOf}
 use Rattle.words.specs.Sets.{cellWords}
 use Rattle.select.specs.Turns.{Ready}
@@ -29,7 +29,7 @@ pub record Cells (cells : ℕ) (f : ℕ → Bool) : Type 0 where
 pub record GroupsRoom (file t : List ℕ) (cells groups : ℕ) (buffer : List ℕ) : Type 0 where
   pub ready : Ready file t
   pub cells-are : cells ≡ cellsOf file
-  pub few : groups ≤ 65535
+  pub few : groups ≤ mostNumber
   pub long : groups * rowBytes cells ≤ length buffer
 
 -- an accepted board with its table and its plan, one of its vectors, and room for its row

@@ -2,6 +2,7 @@
 ghost use mathlib.Core.Path.{_≡_};
 ghost use Prim.Native.Nat.{_+_, _*_, _<_, _≤_};
 ghost use Rattle.rules.specs.Basics.{word, rowBytes, rowOf};
+ghost use Rattle.rules.specs.File.{mostNumber};
 ghost use lib.ListN.{length};
 ghost use Rattle.words.specs.Sets.{member};
 ghost use Rattle.rows.specs.Rows.{placed, Room, Cells};
@@ -9,7 +10,7 @@ use words::CellSet;
 
 // R = ceil(C / 8), the bytes of a row.
 pub fn row_bytes(cells: usize) -> usize
-    requires { ⌜ cells ≤ 65535 ⌝ }
+    requires { ⌜ cells ≤ mostNumber ⌝ }
     ensures { λ r. ⌜ r ≡ rowBytes cells ⌝ }
 {
     (cells + 7) / 8

@@ -4,6 +4,7 @@ pub mod Digits
 pub mod Codes
 pub mod Weaving
 pub mod Limit
+pub mod Derived
 pub mod Verdicts
 pub mod Searching
 pub mod Records

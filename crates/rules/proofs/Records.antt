@@ -48,7 +48,15 @@ choice : (P : Record → Type 0) (a : Bool) (x y : Record) → (a ≡ true → P
 choice P true x y f g = f refl
 choice P false x y f g = g
 
-by-kind : (P : Record → Type 0) (kind : ℕ) (r0 r1 r2 r3 r4 other : Record) → (kind ≡ 0 → P r0) → (kind ≡ 1 → P r1) → (kind ≡ 2 → P r2) → (kind ≡ 3 → P r3) → (kind ≡ 4 → P r4) → P other → P (byKind kind r0 r1 r2 r3 r4 other)
+by-kind :
+    (P : Record → Type 0) (kind : ℕ) (r0 r1 r2 r3 r4 other : Record) →
+    (kind ≡ 0 → P r0) →
+    (kind ≡ 1 → P r1) →
+    (kind ≡ 2 → P r2) →
+    (kind ≡ 3 → P r3) →
+    (kind ≡ 4 → P r4) →
+    P other →
+    P (byKind kind r0 r1 r2 r3 r4 other)
 by-kind P kind r0 r1 r2 r3 r4 other f0 f1 f2 f3 f4 g =
     choice P (eqb kind 0) _ _ (λ e. f0 (eqb-true kind 0 e))
     (choice P (eqb kind 1) _ _ (λ e. f1 (eqb-true kind 1 e))
@@ -58,7 +66,11 @@ by-kind P kind r0 r1 r2 r3 r4 other f0 f1 f2 f3 f4 g =
 
 module _ (kind on control net : ℕ) (switched connected : Bool) (cell : Cell) where
   -- one row: the record says the row's cell where the row's three tests pass, so what the row means is said
-  row : (a c n : Bool) (x : Cell) → (a ≡ true → c ≡ true → n ≡ true → Says kind on control net switched connected x) → means (a && c && n) x ≡ Means cell → Says kind on control net switched connected cell
+  row :
+      (a c n : Bool) (x : Cell) →
+      (a ≡ true → c ≡ true → n ≡ true → Says kind on control net switched connected x) →
+      means (a && c && n) x ≡ Means cell →
+      Says kind on control net switched connected cell
   row a c n x says e =
       let m = means-cell (a && c && n) x cell e in
       let ac = left (a && c) n (m .0) in
@@ -69,11 +81,51 @@ module _ (kind on control net : ℕ) (switched connected : Bool) (cell : Cell) w
   unfolding tableOf kindOf onValueOf controlOf netOf
   table-says =
       by-kind (λ (r : Record). r ≡ Means cell → Says kind on control net switched connected cell) kind _ _ _ _ _ _
-      (λ k. row (eqb on 0) (eqb control none) (eqb net none) Internal (λ o c n. record { kind-is = sym k; on-is = sym (eqb-true on 0 o); control-is = sym (eqb-true control none c); net-is = sym (eqb-true net none n); has-control = λ h. absurd (false≢true (rw k at h)); has-net = λ h. absurd (false≢true (rw k at h)) }))
-      (λ k. row (eqb on 0) (eqb control none) connected (Input (record { 0 = net })) (λ o c n. record { kind-is = sym k; on-is = sym (eqb-true on 0 o); control-is = sym (eqb-true control none c); net-is = refl; has-control = λ h. absurd (false≢true (rw k at h)); has-net = λ h. n }))
-      (λ k. row (ltb on 2) (eqb control none) (eqb net none) (Control (eqb on 1)) (λ o c n. record { kind-is = sym k; on-is = on-value on (ltb-true on 2 o); control-is = sym (eqb-true control none c); net-is = sym (eqb-true net none n); has-control = λ h. absurd (false≢true (rw k at h)); has-net = λ h. absurd (false≢true (rw k at h)) }))
-      (λ k. row (eqb on 0) switched connected (ThreeState (record { 0 = control }) (record { 0 = net })) (λ o c n. record { kind-is = sym k; on-is = sym (eqb-true on 0 o); control-is = refl; net-is = refl; has-control = λ h. c; has-net = λ h. n }))
-      (λ k. row (eqb on 0) (eqb control none) connected (TwoState (record { 0 = net })) (λ o c n. record { kind-is = sym k; on-is = sym (eqb-true on 0 o); control-is = sym (eqb-true control none c); net-is = refl; has-control = λ h. absurd (false≢true (rw k at h)); has-net = λ h. n }))
+      (λ k. row (eqb on 0) (eqb control none) (eqb net none) Internal
+      (λ o c n. record {
+        kind-is = sym k;
+        on-is = sym (eqb-true on 0 o);
+        control-is = sym (eqb-true control none c);
+        net-is = sym (eqb-true net none n);
+        has-control = λ h. absurd (false≢true (rw k at h));
+        has-net = λ h. absurd (false≢true (rw k at h));
+      }))
+      (λ k. row (eqb on 0) (eqb control none) connected (Input (record { 0 = net }))
+      (λ o c n. record {
+        kind-is = sym k;
+        on-is = sym (eqb-true on 0 o);
+        control-is = sym (eqb-true control none c);
+        net-is = refl;
+        has-control = λ h. absurd (false≢true (rw k at h));
+        has-net = λ h. n;
+      }))
+      (λ k. row (ltb on 2) (eqb control none) (eqb net none) (Control (eqb on 1))
+      (λ o c n. record {
+        kind-is = sym k;
+        on-is = on-value on (ltb-true on 2 o);
+        control-is = sym (eqb-true control none c);
+        net-is = sym (eqb-true net none n);
+        has-control = λ h. absurd (false≢true (rw k at h));
+        has-net = λ h. absurd (false≢true (rw k at h));
+      }))
+      (λ k. row (eqb on 0) switched connected (ThreeState (record { 0 = control }) (record { 0 = net }))
+      (λ o c n. record {
+        kind-is = sym k;
+        on-is = sym (eqb-true on 0 o);
+        control-is = refl;
+        net-is = refl;
+        has-control = λ h. c;
+        has-net = λ h. n;
+      }))
+      (λ k. row (eqb on 0) (eqb control none) connected (TwoState (record { 0 = net }))
+      (λ o c n. record {
+        kind-is = sym k;
+        on-is = sym (eqb-true on 0 o);
+        control-is = sym (eqb-true control none c);
+        net-is = refl;
+        has-control = λ h. absurd (false≢true (rw k at h));
+        has-net = λ h. n;
+      }))
       (λ e. let z : _≡_ {A = ℕ} 0 1 = cc in absurd (omega arith))
 
 -- the record at a position
@@ -91,20 +143,34 @@ record-says file p e = go (recordOf file p) refl e
     go Broken q h = absurd (false≢true (sym h))
 
 -- a record that is not broken needs no second look at its columns: its kind says which of them its cell holds
-abbrev pub plainCell : ℕ → ℕ → ℕ → ℕ → Cell
-plainCell kind on control net =
-    byKind kind Internal (Input (record { 0 = net })) (Control (eqb on 1)) (ThreeState (record { 0 = control }) (record { 0 = net })) (TwoState (record { 0 = net })) Internal
+abbrev pub plainRecord : ℕ → ℕ → ℕ → ℕ → Record
+plainRecord kind on control net =
+    byKind kind
+    (Means Internal)
+    (Means (Input (record { 0 = net })))
+    (Means (Control (eqb on 1)))
+    (Means (ThreeState (record { 0 = control }) (record { 0 = net })))
+    (Means (TwoState (record { 0 = net })))
+    Broken
 
-kept : (fits : Bool) (cell : Cell) → isBroken (means fits cell) ≡ false → cellOf (means fits cell) ≡ cell
+kept : (fits : Bool) (cell : Cell) → isBroken (means fits cell) ≡ false → means fits cell ≡ Means cell
 kept true cell h = refl
 kept false cell h = absurd (false≢true (sym h))
 
 -- one choice for both sides
-choose : (a : Bool) (x y : Record) (u v : Cell) → (isBroken x ≡ false → cellOf x ≡ u) → (isBroken y ≡ false → cellOf y ≡ v) → isBroken (cond a x y) ≡ false → cellOf (cond a x y) ≡ cond a u v
+choose :
+    (a : Bool) (x y u v : Record) →
+    (isBroken x ≡ false → x ≡ u) →
+    (isBroken y ≡ false → y ≡ v) →
+    isBroken (cond a x y) ≡ false →
+    cond a x y ≡ cond a u v
 choose true x y u v f g h = f h
 choose false x y u v f g h = g h
 
-plain-table : (kind on control net : ℕ) (switched connected : Bool) → isBroken (tableOf kind on control net switched connected) ≡ false → cellOf (tableOf kind on control net switched connected) ≡ plainCell kind on control net
+plain-table :
+    (kind on control net : ℕ) (switched connected : Bool) →
+    isBroken (tableOf kind on control net switched connected) ≡ false →
+    tableOf kind on control net switched connected ≡ plainRecord kind on control net
 unfolding tableOf
 plain-table kind on control net switched connected =
     choose (eqb kind 0) _ _ _ _ (kept (eqb on 0 && eqb control none && eqb net none) _)
@@ -113,6 +179,9 @@ plain-table kind on control net switched connected =
     (choose (eqb kind 3) _ _ _ _ (kept (eqb on 0 && switched && connected) _)
     (choose (eqb kind 4) _ _ _ _ (kept (eqb on 0 && eqb control none && connected) _) (λ h. absurd (false≢true (sym h)))))))
 
-pub plain-cell : (file : List ℕ) (p : ℕ) → isBroken (recordOf file p) ≡ false → cellOf (recordOf file p) ≡ plainCell (kindAt file p) (onAt file p) (controlAt file p) (netAt file p)
+pub plain-record :
+    (file : List ℕ) (p : ℕ) →
+    isBroken (recordOf file p) ≡ false →
+    recordOf file p ≡ plainRecord (kindAt file p) (onAt file p) (controlAt file p) (netAt file p)
 unfolding recordOf
-plain-cell file p = plain-table _ _ _ _ _ _
+plain-record file p = plain-table _ _ _ _ _ _

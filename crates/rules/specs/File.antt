@@ -28,9 +28,20 @@ recordSize = 6
 abbrev pub headSize : ℕ
 headSize = 4
 
+-- how many values a byte has, and a number of two bytes: 256 and 65,536
+abbrev pub byteValues : ℕ
+byteValues = 256
+
+abbrev pub numberValues : ℕ
+numberValues = byteValues * byteValues
+
+-- the largest number of two bytes, 65,535: no place and no C is above it
+abbrev pub mostNumber : ℕ
+mostNumber = numberValues - 1
+
 -- "65,535 means none"
 abbrev pub none : ℕ
-none = 65535
+none = mostNumber
 
 -- byte i of the file; past its end, 0
 unfoldable pub byteAt : List ℕ → ℕ → ℕ
@@ -38,15 +49,11 @@ byteAt file i = getD file i 0
 
 -- "numbers little-endian": the two bytes from i on
 unfoldable pub numberAt : List ℕ → ℕ → ℕ
-numberAt file i = byteAt file i + 256 * byteAt file (i + 1)
-
--- the largest number of two bytes: no place and no C is above it
-abbrev pub mostNumber : ℕ
-mostNumber = 65535
+numberAt file i = byteAt file i + byteValues * byteAt file (i + 1)
 
 -- "both sums wrapping at 65,536"
 abbrev pub wrapped : ℕ → ℕ
-wrapped n = n % 65536
+wrapped n = n % numberValues
 
 -- "add the byte to a, then a to b"
 unfoldable pub added : Sums → ℕ → Sums
@@ -88,7 +95,9 @@ headRight file i kind records =
 -- "Block 0: kind 1, count 0; bytes 4-7 "BSIN"; byte 8 version 1; byte 9 zero; 10-11 cells C; 12-13 nets N; 14-15 SSOL; 16-507 zero"
 unfoldable pub headerRight : List ℕ → Bool
 headerRight file =
-    headRight file 0 1 0 && eqb (byteAt file 4) 66 && eqb (byteAt file 5) 83 && eqb (byteAt file 6) 73 && eqb (byteAt file 7) 78 && eqb (byteAt file 8) 1 && eqb (byteAt file 9) 0 && zeros file 16 summed
+    headRight file 0 1 0
+    && eqb (byteAt file 4) 66 && eqb (byteAt file 5) 83 && eqb (byteAt file 6) 73 && eqb (byteAt file 7) 78
+    && eqb (byteAt file 8) 1 && eqb (byteAt file 9) 0 && zeros file 16 summed
 
 unfoldable pub cellsOf : List ℕ → ℕ
 cellsOf file = numberAt file 10

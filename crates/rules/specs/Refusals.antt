@@ -1,5 +1,5 @@
 -- "Numbered refusals": the table as a list of checks with their places, and the list that each question uses. Assumes nothing.
-use Prim.Native.Nat.{ℕ, zero, suc, _+_, _*_, _%_}
+use Prim.Native.Nat.{ℕ, zero, suc, _+_, _*_, _/_, _%_}
 use mathlib.Core.Bool.{Bool, cond, not, _&&_, _||_}
 use mathlib.Core.List.{List, [], _∷_, _++_}
 use lib.Dec.{ltb, leb, eqb}
@@ -30,6 +30,13 @@ mostVectors = 4096
 
 abbrev pub mostBlocks : ℕ
 mostBlocks = 14
+
+-- what follows from these: R is at most `rowBytes mostCells`, and p at most `codeWidth mostNets` (`Derived` in proofs/)
+abbrev pub mostBytes : ℕ
+mostBytes = (mostCells + 7) / 8
+
+abbrev pub mostWidth : ℕ
+mostWidth = 9
 
 -- a row of the table: how many places it looks at (from 0), at which of them it applies, and the refusal that it says of a place
 pub record Check : Type 0 where

@@ -1,20 +1,22 @@
 -- What a list of words means: a set of numbers, as a test on them; and how two sets lie. Assumes nothing.
-use Prim.Native.Nat.{ℕ, _/_, _%_, _≤_}
+use Prim.Native.Nat.{ℕ, _+_, _/_, _%_, _≤_}
 use mathlib.Core.Path.{_≡_}
 use mathlib.Core.Bool.{Bool, true, false, not, xor, _&&_, _||_}
 use mathlib.Core.List.{List}
 use lib.Dec.{ltb, eqb}
 use lib.ListN.{length, getD}
 use Rattle.rules.specs.Basics.{any, all, bit}
+use Rattle.rules.specs.File.{mostNumber}
+use Rattle.rules.specs.Refusals.{mostCells, mostNets}
 use Rattle.words.specs.declared.Lie.{Lie}
 use Rattle.words.specs.declared.Lie.the-variants.{Apart, Inside, Holds, Equal, Crossing}
 
 -- the words of a set of nets, and of a set of cells
 abbrev pub netWords : ℕ
-netWords = 4
+netWords = (mostNets + 63) / 64
 
 abbrev pub cellWords : ℕ
-cellWords = 16
+cellWords = (mostCells + 63) / 64
 
 -- number i is in the set that the words hold
 unfoldable pub member : List ℕ → ℕ → Bool
@@ -66,7 +68,7 @@ lieOf n f g = lieBy (insideIn n f g) (insideIn n g f) (meetsIn n f g)
 
 -- as many words as one list may have: a number of a member, or of members, then fits a `usize`
 abbrev pub mostWords : ℕ
-mostWords = 1024
+mostWords = mostNumber
 
 -- two lists of words that are compared or joined word by word
 pub record Alike (a b : List ℕ) : Type 0 where

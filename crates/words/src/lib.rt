@@ -7,15 +7,17 @@ ghost use Prim.Native.Nat.{_*_, _-_, _<_, _≤_};
 ghost use Rattle.rules.specs.Basics.{count, seek};
 ghost use Rattle.rules.specs.Vectors.{among};
 ghost use Rattle.words.specs.Sets.{netWords, cellWords, member, nothing, plus, either, unlike, meetsIn, insideIn, lieOf};
+use rules::MOST_CELLS;
+use rules::MOST_NETS;
 use rules::Net;
 use rules::Position;
 
 pub mod core;
 
 // How many words hold a set of nets, and a set of cells.
-pub const NET_WORDS: usize = 4;
+pub const NET_WORDS: usize = (MOST_NETS + 63) / 64;
 
-pub const CELL_WORDS: usize = 16;
+pub const CELL_WORDS: usize = (MOST_CELLS + 63) / 64;
 
 // How one set lies to another: no member in common, inside it, around it, the same, or crossing it.
 // The set of nothing lies inside every other.

@@ -4,7 +4,6 @@ use mathlib.Core.Path.{_≡_, refl}
 use mathlib.Core.Bool.{Bool, not}
 use mathlib.Core.List.{List}
 use native.Mathlib.Omega.{arith}
-use borrow.Author.Needs.{needs}
 use lib.Dec.{eqb}
 use lib.ListN.{length}
 use Rattle.rules.specs.File.{blockSize, blocksIn, cellsOf, cellBlockRight}
@@ -14,7 +13,12 @@ use Rattle.blocks.proofs.block_wrong.Statement.{statement}
 use Rattle.blocks.proofs.block_wrong.Tie as tie
 
 -- the number of blocks
-first-wrong : (file : List ℕ) {i cells blocks : ℕ} → i ≡ 0 → cells ≡ cellsOf file → blocks ≡ blocksFor cells → not (eqb (length file / blockSize) blocks) ≡ blockWrong file i
+first-wrong :
+    (file : List ℕ) {i cells blocks : ℕ} →
+    i ≡ 0 →
+    cells ≡ cellsOf file →
+    blocks ≡ blocksFor cells →
+    not (eqb (length file / blockSize) blocks) ≡ blockWrong file i
 unfolding blockWrong blocksIn
 first-wrong file e ec eb = rw (e, eb, ec)
 
@@ -26,13 +30,20 @@ later-wrong file (suc i) n e = rw e
 
 blocks-for-requires : tie.Need-blocks-for-requires
 blocks-for-requires c κs =
-    omega (arith, c .before .before .pre .told, cells-low (c .before .before .args .file .now) (λ j. c .before .shared-slice-known .given j .fits))
+    let d = c .before in
+    omega (arith, d .before .pre .told, cells-low (d .before .args .file .now) (λ j. d .shared-slice-known .given j .fits))
 
 returns : tie.Need-returns
 returns c = first-wrong _ (c .before .if1 .taken) (c .before .before .before .pre .told) (c .blocks-for .ensures)
+
+cell-block-right-requires : tie.Need-cell-block-right-requires
+cell-block-right-requires c κs =
+    let p = c .before .before .pre in
+    let n = c .if1 .left in
+    record { later = omega arith; whole = p .whole; told = p .told; head = p .head }
 
 returns-2 : tie.Need-returns-2
 returns-2 c = later-wrong _ _ (c .before .if1 .left) (c .cell-block-right .ensures)
 
 pub block-wrong-spec : {M : Type 1} → statement M
-block-wrong-spec = tie.close (tie.spec blocks-for-requires returns (λ c κs. search needs) returns-2)
+block-wrong-spec = tie.close (tie.spec blocks-for-requires returns cell-block-right-requires returns-2)

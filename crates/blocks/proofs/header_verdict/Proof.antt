@@ -9,15 +9,11 @@ use Rattle.rules.proofs.Searching.{once-fails, once-passes}
 use Rattle.blocks.proofs.header_verdict.Statement.{statement}
 use Rattle.blocks.proofs.header_verdict.Tie as tie
 
-header-right-requires : tie.Need-header-right-requires
-header-right-requires c κs = right-length _ (c .before .pre) .some
-
-outside-requires : tie.Need-outside-requires
-outside-requires c κs = right-length _ (c .before .before .before .pre) .some
-
 returns : tie.Need-returns
 returns c =
-    c .once .ensures ∙ ap (λ (fails : Bool). judge (once 4 fails ∷ [])) (c .before .outside .ensures) ∙ sym (once-passes 3 _ _ (rw (← c .before .before .before .header-right .ensures, c .before .before .if1 .taken)))
+    c .once .ensures
+    ∙ ap (λ (fails : Bool). judge (once 4 fails ∷ [])) (c .before .outside .ensures)
+    ∙ sym (once-passes 3 _ _ (rw (← c .before .before .before .header-right .ensures, c .before .before .if1 .taken)))
 
 returns-2 : tie.Need-returns-2
 returns-2 c =
@@ -25,4 +21,11 @@ returns-2 c =
 
 pub header-verdict-spec : {M : Type 1} → statement M
 header-verdict-spec =
-    tie.close (tie.spec header-right-requires outside-requires (λ c κs. search needs) (λ c κs. search needs) returns returns-2)
+    tie.close
+    (tie.spec
+    (λ c κs. c .before .pre)
+    (λ c κs. right-length _ (c .before .before .before .pre .right) .some)
+    (λ c κs. search needs)
+    (λ c κs. search needs)
+    returns
+    returns-2)

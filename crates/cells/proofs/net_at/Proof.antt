@@ -3,7 +3,6 @@ use Prim.Native.Nat.{ℕ, _+_}
 use mathlib.Core.Path.{_≡_, sym, _∙_}
 use mathlib.Core.List.{List}
 use native.Mathlib.Omega.{arith}
-use borrow.Author.Needs.{needs}
 use Rattle.rules.specs.File.{recordAt, boardOf, numberAt, netAt, brokenAt, netOf}
 use Rattle.rules.proofs.Records.{record-says}
 use Rattle.rules.proofs.Shape.{whole-records}

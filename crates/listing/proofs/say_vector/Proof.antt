@@ -2,6 +2,7 @@
 use Prim.Native.Nat.{_≤_}
 use native.Mathlib.Omega.{arith}
 use borrow.Author.Needs.{needs}
+use Rattle.rules.specs.Refusals.{mostCells, mostBytes}
 use Rattle.listing.proofs.Short.{few-cells, row-short}
 use Rattle.listing.proofs.say_vector.Statement.{statement}
 use Rattle.listing.proofs.say_vector.Tie as tie
@@ -9,7 +10,7 @@ use Rattle.listing.proofs.say_vector.Tie as tie
 abbrev start : tie.After-write-vector → tie.Start
 start c = c .before .before .before .before
 
-few : (s : tie.Start) → s .args .cells ≤ 1024
+few : (s : tie.Start) → s .args .cells ≤ mostCells
 few s = few-cells _ _ _ (s .pre .0) (s .pre .1 .0)
 
 write-vector-requires : tie.Need-write-vector-requires
@@ -21,8 +22,8 @@ write-vector-requires c κs =
 row-bytes-requires : tie.Need-row-bytes-requires
 row-bytes-requires c κs = let l = few (start (c .before)) in omega arith
 
--- the row's bytes are within its 128
-short : (d : tie.After-row-bytes) → d .row-bytes .result ≤ 128
+-- the row's bytes are within its most
+short : (d : tie.After-row-bytes) → d .row-bytes .result ≤ mostBytes
 short d =
     let s = row-short _ (few (start (d .before .before))) in
     let e = d .row-bytes .ensures in

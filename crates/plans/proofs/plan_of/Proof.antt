@@ -1,6 +1,7 @@
--- The width of at most 256 nets is from 1 to 9.
+-- The width of at most so many nets is from 1 to `mostWidth`.
 use native.Mathlib.Omega.{arith}
 use borrow.Author.Needs.{needs}
+use Rattle.rules.specs.Refusals.{mostWidth}
 use Rattle.plan.proofs.Coding.{width-some, width-low}
 use Rattle.plans.proofs.plan_of.Statement.{statement}
 use Rattle.plans.proofs.plan_of.Tie as tie
@@ -10,7 +11,7 @@ returns c =
     let p = c .before .pre in
     let n = p .0 in
     let nets = c .before .args .nets in
-    let l = width-low 9 nets (omega arith) in
+    let l = width-low mostWidth nets (omega arith) in
     record { nets = p .0; coded = rw (c .width .ensures) (width-some nets); narrow = rw (c .width .ensures) (omega arith); turns = p .1; few = omega (arith, p .2); limited = p .3; low = omega (arith, p .4) }
 
 pub plan-of-spec : {M : Type 1} → statement M

@@ -24,6 +24,6 @@ crossed-verdict-spec =
     (λ c κs. let p = c .before .pre in (p .0 .by-control, p .1))
     (λ c. accepts _ _ (c .before .nested-upward .ensures (c .if1 .taken)))
     (λ c κs. let p = start (c .before) .pre in (p .0 .by-control, p .1))
-    (λ c. accepts _ _ (c .before .nested-by-size .ensures (c .if2 .taken)))
+    (λ c. accepts _ _ (c .before .nested-downward .ensures (c .if2 .taken)))
     (λ c κs. start (c .before .before .before) .pre)
     (λ c. c .lowest-crossed .ensures))

@@ -1,8 +1,7 @@
 -- The search for the lowest control cell that fails; one without a driver does not.
-use Prim.Native.Nat.{ℕ, _-_, _<_}
-use mathlib.Core.Path.{_≡_, sym, _∙_}
-use mathlib.Core.Bool.{false}
-use mathlib.Core.List.{List, []}
+use Prim.Native.Nat.{_-_}
+use mathlib.Core.Path.{sym, _∙_}
+use mathlib.Core.List.{[]}
 use native.Mathlib.Omega.{arith}
 use Rattle.rules.specs.File.{boardOf, cellsOf}
 use Rattle.rules.specs.Refusals.{crossed}

@@ -1,5 +1,4 @@
 -- The function's own table is blank.
-use borrow.Author.Needs.{needs}
 use Rattle.chains.proofs.TableLaws.{blank}
 use Rattle.board.proofs.verdict.verdict.Statement.{statement}
 use Rattle.board.proofs.verdict.verdict.Tie as tie

@@ -1,5 +1,5 @@
 -- A driver is linked by its net and by its control cell, and counted; any other cell is enter_other's.
-use mathlib.Core.Path.{_≡_, _∙_}
+use mathlib.Core.Path.{_≡_}
 use borrow.Author.Needs.{needs}
 use native.Mathlib.Omega.{arith}
 use Rattle.rules.specs.File.{boardOf}

@@ -1,12 +1,12 @@
 -- A walk along k's chain that gathers the nets of its drivers.
 use Prim.Native.Nat.{ℕ, _<_}
-use mathlib.Core.Path.{_≡_, refl, sym, _∙_, ap}
+use mathlib.Core.Path.{_≡_, refl, sym}
 use mathlib.Core.Bool.{true}
 use mathlib.Core.List.{List}
 use borrow.Author.Needs.{needs}
 use native.Mathlib.Omega.{arith}
 use lib.ListN.{length}
-use Rattle.rules.specs.File.{boardOf, cellsOf, netOf}
+use Rattle.rules.specs.File.{boardOf, cellsOf}
 use Rattle.rules.specs.Refusals.{mostCells}
 use Rattle.words.specs.Sets.{netWords, member, nothing}
 use Rattle.words.proofs.Members.{member-zeros}

@@ -1,9 +1,14 @@
 -- Bit by bit, from pattern 1 on.
-use Prim.Native.Nat.{_-_, _≤_}
+use Prim.Native.Nat.{_*_, _-_, _≤_, _<_}
 use mathlib.Core.Path.{_≡_}
 use native.Mathlib.Omega.{arith}
+use lib.ListN.{length}
+use Rattle.rules.specs.Refusals.{mostWidth}
+use Rattle.rules.specs.Vectors.{stepsOf}
+use Rattle.words.specs.Sets.{netWords}
+use Rattle.plan.specs.Plans.{basesFor}
 use Rattle.plan.proofs.Stepping.{extra-low}
-use Rattle.readings.specs.Readings.{startOf, codeFrom, Mapped}
+use Rattle.readings.specs.Readings.{startOf, codeFrom, mostHalf, Mapped}
 use Rattle.readings.proofs.Mapping.{mapped-id, mapped-same, mapped-low}
 use Rattle.readings.proofs.Places.{starts-none, starts-next, rowed, row-scanned, place-low}
 use Rattle.readings.proofs.Decoding.{first-below, first-in, code-low, code-none, code-more, code-all}
@@ -20,44 +25,68 @@ abbrev μ-loop : tie.MeasureT-loop
 loop-holds : tie.Need-loop-holds Inv-loop μ-loop
 loop-holds c = (omega arith, starts-none _, mapped-same (code-none _ _ _) (mapped-id _ _))
 
+-- the places: the entry as seen from the loop, the loop from a round, and a round's beginning from its end
+abbrev entry : tie.At-loop Inv-loop μ-loop → tie.Start Inv-loop μ-loop
+entry d = d .before .before .before
+
+abbrev begun : tie.After-extra-after Inv-loop μ-loop → tie.Then1 Inv-loop μ-loop
+begun d = d .before .before .before .before .before
+
+abbrev round : tie.Then1 Inv-loop μ-loop → tie.At-loop Inv-loop μ-loop
+round d = d .before .before
+
+-- vector t is one of the plan's
+inside : (d : tie.Then1 Inv-loop μ-loop) → round d .loop .t < length (stepsOf (basesFor (entry (round d) .args .plan)))
+inside d = first-in _ _ _ (entry (round d) .pre .0 .small) (d .if1 .taken) (round d .loop .inv .1)
+
 mul-add-row : tie.Need-mul-add-row Inv-loop μ-loop
 mul-add-row c =
-    let p = c .before .before .before .before .before .pre .0 in
-    let inv = c .before .before .loop .inv in
-    let m = place-low _ _ _ (rowed _ _ _ _ p) _ (first-in _ _ _ (p .small) (c .if1 .taken) (inv .1)) in
+    let m = place-low _ _ _ (rowed _ _ _ _ (entry (round c) .pre .0)) _ (inside c) in
     omega arith
 
 add-row-requires : tie.Need-add-row-requires Inv-loop μ-loop
 add-row-requires c κs =
-    let p = c .before .before .before .before .before .before .pre in
-    let inv = c .before .before .before .loop .inv in
+    let d = c .before in
+    let p = entry (round d) .pre in
+    let inv = round d .loop .inv in
     let l = inv .0 in
     let n = p .0 .narrow in
-    let nine : c .before .before .before .loop .j ≤ 9 = omega arith in
-    (row-scanned _ _ _ _ (p .0) _ (first-in _ _ _ (p .0 .small) (c .before .if1 .taken) (inv .1)), mapped-low 16383 0 (p .1) (λ x e z. code-low _ _ _ _ x e nine z) (inv .2))
+    let narrow : round d .loop .j ≤ mostWidth = omega arith in
+    (row-scanned _ _ _ _ (p .0) _ (inside d), mapped-low mostHalf 0 (p .1) (λ x e z. code-low _ _ _ _ x e narrow z) (inv .2))
 
 extra-after-requires : tie.Need-extra-after-requires Inv-loop μ-loop
-extra-after-requires c κs = let p = c .before .before .before .before .before .before .before .before .before .pre .0 in (p .small, first-below _ _ (p .small) (c .before .before .before .before .if1 .taken))
+extra-after-requires c κs =
+    let d = c .before .before .before .before in
+    let s = entry (round d) .pre .0 .small in
+    (s, first-below _ _ s (d .if1 .taken))
+
+-- as many vectors as follow a base vector are few
+few : (d : tie.After-extra-after Inv-loop μ-loop) → d .extra-after .result ≤ 64 * netWords
+few d =
+    let k = round (begun d) in
+    let e = d .extra-after .ensures in
+    omega (arith, extra-low _ (entry k .pre .0 .small) (k .loop .j))
 
 add-t : tie.Need-add-t Inv-loop μ-loop
-add-t c =
-    let low = extra-low _ (c .before .before .before .before .before .before .before .before .before .before .pre .0 .small) (c .before .before .before .before .before .before .before .loop .j) in
-    let e = c .extra-after .ensures in
-    omega arith
+add-t c = let f = few c in omega arith
 
 add-t-2 : tie.Need-add-t-2 Inv-loop μ-loop
 add-t-2 c =
-    let p = c .before .before .before .before .before .before .before .before .before .before .pre .0 in
-    let low = extra-low _ (p .small) (c .before .before .before .before .before .before .before .loop .j) in
-    let e = c .extra-after .ensures in
-    let t = first-in _ _ _ (p .small) (c .before .before .before .before .before .if1 .taken) (c .before .before .before .before .before .before .before .loop .inv .1) in
-    let v = p .vectors in
+    let f = few c in
+    let t = inside (begun c) in
+    let v = entry (round (begun c)) .pre .0 .vectors in
+    omega arith
+
+add-j : tie.Need-add-j Inv-loop μ-loop
+add-j c =
+    let t = begun c .if1 .taken in
+    let n = entry (round (begun c)) .pre .0 .narrow in
     omega arith
 
 loop-again : tie.Need-loop-again Inv-loop μ-loop
 loop-again c =
-    let inv = c .before .before .before .before .before .before .before .loop .inv in
-    let t = c .before .before .before .before .before .if1 .taken in
+    let inv = round (begun c) .loop .inv in
+    let t = begun c .if1 .taken in
     (omega arith, starts-next _ _ _ _ (inv .1) (c .extra-after .ensures), code-more _ _ _ _ _ (inv .1) (inv .2) (c .before .before .before .add-row .ensures))
 
 returns : tie.Need-returns Inv-loop μ-loop
@@ -70,4 +99,15 @@ returns c =
 pub read-codes-spec : {M : Type 1} → statement M
 read-codes-spec =
     tie.close
-    (tie.spec Inv-loop μ-loop loop-holds mul-add-row add-row-requires extra-after-requires add-t add-t-2 (λ c. let t = c .before .before .before .before .before .if1 .taken in let n = c .before .before .before .before .before .before .before .before .before .before .pre .0 .narrow in omega arith) (λ c. omega (arith, c .before .before .before .before .before .if1 .taken)) loop-again (λ c. c .before .before .loop .inv .2 .long) returns)
+    (tie.spec Inv-loop μ-loop
+    loop-holds
+    mul-add-row
+    add-row-requires
+    extra-after-requires
+    add-t
+    add-t-2
+    add-j
+    (λ c. omega (arith, begun c .if1 .taken))
+    loop-again
+    (λ c. c .before .before .loop .inv .2 .long)
+    returns)

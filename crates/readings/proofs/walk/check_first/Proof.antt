@@ -3,6 +3,7 @@ use Prim.Native.Nat.{_*_, _-_, _≤_}
 use mathlib.Core.Path.{_≡_}
 use native.Mathlib.Omega.{arith}
 use Rattle.rules.specs.Basics.{any}
+use Rattle.words.specs.Sets.{netWords}
 use Rattle.plan.proofs.Stepping.{extra-low}
 use Rattle.readings.specs.Readings.{startOf, strayIn, Left}
 use Rattle.readings.proofs.Places.{starts-none, starts-next, part-below}
@@ -19,33 +20,61 @@ Inv-loop capture plan bytes table left₀ t₀ i₀ left t i =
 abbrev μ-loop : tie.MeasureT-loop
 μ-loop capture plan bytes table left₀ t₀ i₀ left t i = plan .wide - i
 
+-- the places: the entry, as seen from a round, and the count of the vectors inserted, as seen from the round's end
+abbrev entry : tie.At-loop Inv-loop μ-loop → tie.Start Inv-loop μ-loop
+entry d = d .before .before .before .before
+
+abbrev counted : tie.After-slice-known2 Inv-loop μ-loop → tie.After-extra-after Inv-loop μ-loop
+counted d = d .before .before .before .before
+
+-- a round's part is one of the plan's, and few vectors are inserted there
+few : (d : tie.After-extra-after Inv-loop μ-loop) → d .extra-after .result ≤ 64 * netWords
+few d =
+    let r = d .before .before .before in
+    let low = extra-low _ (entry r .pre .0 .small) (r .loop .i) in
+    omega (arith, d .extra-after .ensures)
+
 check-part-requires : tie.Need-check-part-requires Inv-loop μ-loop
 check-part-requires c κs =
-    let p = c .before .before .before .before .before .before .before .before .pre in
-    let inv = c .before .before .before .before .loop .inv in
-    (p .0, (record { below = first-below _ _ (p .0 .small) (c .before .before .if1 .taken); extra-is = c .before .extra-after .ensures; start-is = inv .1 }, still-lent (p .1) (inv .2)))
+    let d = c .before in
+    let r = d .before .before .before in
+    let p = entry r .pre in
+    let inv = r .loop .inv in
+    let below = first-below _ _ (p .0 .small) (d .before .if1 .taken) in
+    (p .0, (record { below = below; extra-is = d .extra-after .ensures; start-is = inv .1 }, still-lent (p .1) (inv .2)))
 
 add-t-2 : tie.Need-add-t-2 Inv-loop μ-loop
 add-t-2 c =
-    let p = c .before .before .before .before .before .before .before .before .before .before .before .pre .0 in
-    let low = extra-low _ (p .small) (c .before .before .before .before .before .before .before .loop .i) in
-    let e = c .before .before .before .before .extra-after .ensures in
+    let d = counted c in
+    let r = d .before .before .before in
+    let p = entry r .pre .0 in
+    let low = few d in
     let v = p .vectors in
-    let q = part-below _ _ 0 _ (first-below _ _ (p .small) (c .before .before .before .before .before .if1 .taken)) (c .before .before .before .before .before .before .before .loop .inv .1) (omega arith) in
+    let q = part-below _ _ 0 _ (first-below _ _ (p .small) (d .before .if1 .taken)) (r .loop .inv .1) (omega arith) in
+    omega arith
+
+add-i : tie.Need-add-i Inv-loop μ-loop
+add-i c =
+    let d = counted c .before in
+    let t = d .if1 .taken in
+    let n = entry (d .before .before) .pre .0 .small .narrow in
     omega arith
 
 loop-again : tie.Need-loop-again Inv-loop μ-loop
 loop-again c =
-    let inv = c .before .before .before .before .before .before .before .loop .inv in
-    let t = c .before .before .before .before .before .if1 .taken in
-    (omega arith, starts-next _ _ _ _ (inv .1) (c .before .before .before .before .extra-after .ensures), left-parts _ _ _ _ _ (inv .2) (c .before .before .check-part .ensures))
+    let d = counted c in
+    let inv = d .before .before .before .loop .inv in
+    let t = d .before .if1 .taken in
+    let next = starts-next _ _ _ _ (inv .1) (d .extra-after .ensures) in
+    (omega arith, next, left-parts _ _ _ _ _ (inv .2) (c .before .before .check-part .ensures))
 
 returns : tie.Need-returns Inv-loop μ-loop
 returns c =
-    let inv = c .before .before .loop .inv in
+    let r = c .before .before in
+    let inv = r .loop .inv in
     let l = inv .0 in
     let t = c .if1 .left in
-    let e : c .before .before .loop .i ≡ c .before .before .before .before .before .before .args .plan .wide = omega arith in
+    let e : r .loop .i ≡ entry r .args .plan .wide = omega arith in
     (period-is _ _ _ (inv .1) e, left-first _ _ _ _ _ _ (inv .2) e)
 
 pub check-first-spec : {M : Type 1} → statement M
@@ -53,12 +82,12 @@ check-first-spec =
     tie.close
     (tie.spec Inv-loop μ-loop
     (λ c. (omega arith, starts-none _, left-no-part _ _ _ _ _ _))
-    (λ c κs. let p = c .before .before .before .before .before .before .pre .0 in (p .small, first-below _ _ (p .small) (c .if1 .taken)))
+    (λ c κs. let p = entry (c .before .before) .pre .0 in (p .small, first-below _ _ (p .small) (c .if1 .taken)))
     check-part-requires
-    (λ c. let low = extra-low _ (c .before .before .before .before .before .before .before .before .before .before .before .pre .0 .small) (c .before .before .before .before .before .before .before .loop .i) in let e = c .before .before .before .before .extra-after .ensures in omega arith)
+    (λ c. let low = few (counted c) in omega arith)
     add-t-2
-    (λ c. let t = c .before .before .before .before .before .if1 .taken in let n = c .before .before .before .before .before .before .before .before .before .before .before .pre .0 .small .narrow in omega arith)
-    (λ c. let t = c .before .before .before .before .before .if1 .taken in omega arith)
+    add-i
+    (λ c. let t = counted c .before .if1 .taken in omega arith)
     loop-again
     (λ c. c .before .before .loop .inv .2 .long)
     returns)

@@ -6,6 +6,8 @@ use native.Mathlib.Omega.{arith}
 use borrow.Author.Needs.{needs}
 use lib.ListN.{length}
 use Rattle.rules.specs.Basics.{any}
+use Rattle.rules.specs.File.{numberValues}
+use Rattle.rules.specs.Refusals.{mostBytes}
 use Rattle.words.specs.Sets.{member, nothing}
 use Rattle.readings.specs.Readings.{otherLater, Later, Left}
 use Rattle.readings.proofs.Places.{row-in, place-in}
@@ -25,7 +27,7 @@ abbrev μ-loop : tie.MeasureT-loop
 inside : (capture : List ℕ) (first vectors bytes t : ℕ) → Later capture first vectors bytes → t < vectors → t * bytes + bytes ≤ length capture
 inside capture first vectors bytes t h l = row-in t vectors bytes (length capture) l (h .rows-are)
 
-low : (capture : List ℕ) (first vectors bytes t : ℕ) → Later capture first vectors bytes → t < vectors → t * bytes ≤ 65536 * 128
+low : (capture : List ℕ) (first vectors bytes t : ℕ) → Later capture first vectors bytes → t < vectors → t * bytes ≤ numberValues * mostBytes
 low capture first vectors bytes t h l = place-in t vectors bytes l (h .few) (h .short)
 
 check-rows-requires : tie.Need-check-rows-requires Inv-loop μ-loop
@@ -34,10 +36,22 @@ check-rows-requires c κs =
     let t = c .before .loop-test .taken in
     ((inside _ _ _ _ _ (p .0) t, inside _ _ _ _ _ (p .0) (omega arith)), still-lent (p .1) (c .before .before .loop .inv .1))
 
+-- a round's beginning, as seen from its end
+abbrev begun : tie.After-slice-known2 Inv-loop μ-loop → tie.In-loop Inv-loop μ-loop
+begun d = d .before .before .before .before
+
+add-u : tie.Need-add-u Inv-loop μ-loop
+add-u c =
+    let d = begun c in
+    let f = d .before .before .before .before .before .before .pre .0 .few in
+    let t = d .loop-test .taken in
+    omega arith
+
 loop-again : tie.Need-loop-again Inv-loop μ-loop
 loop-again c =
-    let inv = c .before .before .before .before .before .loop .inv in
-    let t = c .before .before .before .before .loop-test .taken in
+    let d = begun c in
+    let inv = d .before .loop .inv in
+    let t = d .loop-test .taken in
     (omega arith, left-later _ _ _ _ _ _ (inv .2) (inv .1) (c .before .before .check-rows .ensures), inv .2)
 
 returns : tie.Need-returns Inv-loop μ-loop
@@ -58,8 +72,8 @@ check-later-spec =
     (λ c. let m = low _ _ _ _ _ (c .before .before .before .before .before .before .pre .0) (c .loop-test .taken) in omega arith)
     (λ c. let t = c .loop-test .taken in let m = low _ _ _ _ (c .before .loop .u) (c .before .before .before .before .before .before .pre .0) (omega arith) in omega arith)
     check-rows-requires
-    (λ c. let p = c .before .before .before .before .before .before .before .before .before .before .pre .0 in let f = p .few in let t = c .before .before .before .before .loop-test .taken in omega arith)
-    (λ c. let t = c .before .before .before .before .loop-test .taken in omega arith)
+    add-u
+    (λ c. let t = begun c .loop-test .taken in omega arith)
     loop-again
     (λ c. c .before .loop .inv .1 .long)
     returns)

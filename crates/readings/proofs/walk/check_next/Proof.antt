@@ -13,25 +13,33 @@ use Rattle.readings.proofs.walk.check_next.Tie as tie
 earlier : (t bytes : ℕ) → t * bytes + bytes ≡ (t + 1) * bytes
 earlier t bytes = sym (ap (λ (x : ℕ). x * bytes) (add-one t) ∙ suc-mul t bytes)
 
+-- the places: the entry, as seen from the nets that change, and these, as seen from the rows checked
+abbrev entry : tie.After-flip → tie.Start
+entry d = d .before .before .before .before
+
+abbrev flipped : tie.After-check-rows → tie.After-flip
+flipped d = d .before .before .before .before .before
+
 check-rows-requires : tie.Need-check-rows-requires
 check-rows-requires c κs =
-    let a = c .before .before .before .before .before .args in
-    let p = c .before .before .before .before .before .pre in
-    let q = p .0 in
-    let e = earlier (a .t) (a .bytes) in
-    ((omega arith, q), p .1 .1)
+    let s = entry (c .before .before .before .before) in
+    let q = s .pre .0 in
+    let e = earlier (s .args .place .t) (s .args .place .bytes) in
+    ((omega arith, q), s .pre .1 .1)
 
 returns : tie.Need-returns
-returns c = left-changing _ _ _ _ _ _ _ _ _ (c .before .before .before .before .flip .ensures) (c .before .before .check-rows .ensures)
+returns c =
+    let d = c .before .before in
+    left-changing _ _ _ _ _ _ _ _ _ (flipped d .flip .ensures) (d .check-rows .ensures)
 
 pub check-next-spec : {M : Type 1} → statement M
 check-next-spec =
     tie.close
     (tie.spec
     (λ c κs. search needs)
-    (λ c. let a = c .before .before .before .before .args in let q = c .before .before .before .before .pre .0 in let e = earlier (a .t) (a .bytes) in omega arith)
-    (λ c. let q = c .before .before .before .before .pre .1 .0 in omega arith)
-    (λ c. let q = c .before .before .before .before .pre .0 in omega arith)
+    (λ c. let a = entry (c .before) .args .place in let q = entry (c .before) .pre .0 in let e = earlier (a .t) (a .bytes) in omega arith)
+    (λ c. let q = entry (c .before .before) .pre .1 .0 in omega arith)
+    (λ c. let q = entry (c .before .before .before) .pre .0 in omega arith)
     check-rows-requires
     (λ c. search needs)
     returns)

@@ -2,8 +2,10 @@
 use Prim.Native.Nat.{ℕ, _*_, _≤_}
 use native.Mathlib.Omega.{arith}
 use borrow.Author.Needs.{needs}
-use lib.ListN.{length-replicate}
+use lib.ListN.{length, length-replicate}
 use Rattle.rules.specs.Basics.{ceil, rowBytes}
+use Rattle.rules.specs.Refusals.{mostBytes}
+use Rattle.readings.specs.Readings.{Captured}
 use Rattle.readings.proofs.Places.{rowed}
 use Rattle.readings.proofs.Mapping.{entries-below}
 use Rattle.readings.proofs.Decoding.{captured}
@@ -16,38 +18,70 @@ cells-in : (cells : ℕ) → cells ≤ 8 * rowBytes cells
 unfolding rowBytes ceil
 cells-in cells = omega arith
 
+-- the places: the entry, the length of a row, the codes read, and those of nets, each as seen from the next
+abbrev entry : tie.After-row-bytes → tie.Start
+entry d = d .before .before .before
+
+abbrev rows : tie.After-read-codes → tie.After-row-bytes
+rows d = d .before .before
+
+abbrev codes : tie.After-own-codes → tie.After-read-codes
+codes d = d .before .before .before .before
+
+abbrev owned : tie.After-check-all → tie.After-own-codes
+owned d = d .before .before .before .before .before
+
+-- the capture, with a row's length as it was reckoned, and how long the table is
+known : (d : tie.After-row-bytes) → Captured (entry d .args .plan) (entry d .args .capture .now) (entry d .args .cells) (d .row-bytes .result)
+known d = captured _ _ _ _ (entry d .pre .0) (d .row-bytes .ensures)
+
+long : (d : tie.After-own-codes) → entry (rows (codes d)) .args .cells ≤ length (entry (rows (codes d)) .args .table .now)
+long d = let s = entry (rows (codes d)) in let l = s .pre .1 .long in omega (arith, cells-in (s .args .cells))
+
 read-codes-requires : tie.Need-read-codes-requires
 read-codes-requires c κs =
-    let p = c .before .before .before .before .pre in
-    (captured _ _ _ _ (p .0) (c .before .row-bytes .ensures), entries-below _ _ _ _ (p .1) (cells-in _))
+    let d = c .before in
+    (known d, entries-below _ _ _ _ (entry d .pre .1) (cells-in _))
 
 own-codes-requires : tie.Need-own-codes-requires
 own-codes-requires c κs =
-    let l = c .before .before .before .before .before .before .before .before .pre .1 .long in
-    let i = cells-in (c .before .before .before .before .before .before .before .before .args .cells) in
-    omega (arith, c .before .before .before .read-codes .ensures .long)
+    let d = c .before .before .before in
+    let s = entry (rows d) in
+    let l = s .pre .1 .long in
+    omega (arith, cells-in (s .args .cells), d .read-codes .ensures .long)
 
 check-all-requires : tie.Need-check-all-requires
 check-all-requires c κs =
-    let p = c .before .before .before .before .before .before .before .before .before .before .before .before .before .pre in
-    let k = captured _ _ _ _ (p .0) (c .before .before .before .before .before .before .before .before .before .before .row-bytes .ensures) in
-    (rowed _ _ _ _ k, own-lent _ _ _ _ _ _ _ k (p .1) (c .before .before .before .before .before .before .before .before .read-codes .ensures) (c .before .before .before .before .own-codes .ensures))
+    let d = c .before .before .before .before in
+    let k = known (rows (codes d)) in
+    (rowed _ _ _ _ k, own-lent _ _ _ _ _ _ _ k (entry (rows (codes d)) .pre .1) (codes d .read-codes .ensures) (d .own-codes .ensures))
 
 clear-requires : tie.Need-clear-requires
 unfolding rowBytes ceil
 clear-requires c κs =
-    let p = c .before .before .before .before .before .before .before .before .before .before .before .before .before .before .before .before .before .pre in
-    let l = p .1 .long in
-    let f = p .0 .few in
-    let e = c .before .before .before .check-all .ensures .long in
-    (omega (arith, length-replicate {A = ℕ} 128 255), omega (arith, c .before .before .before .before .before .before .before .before .before .before .before .before .read-codes .ensures .long, c .before .before .before .before .before .before .before .before .own-codes .ensures .long))
+    let d = c .before .before .before in
+    let o = owned d in
+    let f = entry (rows (codes o)) .pre .0 .few in
+    let e = d .check-all .ensures .long in
+    (omega (arith, length-replicate {A = ℕ} mostBytes 255), omega (arith, long o, codes o .read-codes .ensures .long, o .own-codes .ensures .long))
 
 returns : tie.Need-returns
 returns c =
-    let p = c .before .before .before .before .before .before .before .before .before .before .before .before .before .before .before .before .before .before .before .before .pre in
-    all-read _ _ _ _ _ _ _ _ _ (captured _ _ _ _ (p .0) (c .before .before .before .before .before .before .before .before .before .before .before .before .before .before .before .before .before .row-bytes .ensures)) (p .1) (c .before .before .before .before .before .before .before .before .before .before .before .before .before .before .before .read-codes .ensures) (c .before .before .before .before .before .before .before .before .before .before .before .own-codes .ensures) (c .before .before .before .before .before .before .check-all .ensures) (c .before .before .clear .ensures)
+    let d = c .before .before .before .before .before .before in
+    let o = owned d in
+    let r = codes o in
+    all-read _ _ _ _ _ _ _ _ _ (known (rows r)) (entry (rows r) .pre .1) (r .read-codes .ensures) (o .own-codes .ensures) (d .check-all .ensures) (c .before .before .clear .ensures)
 
 pub read-nets-spec : {M : Type 1} → statement M
 read-nets-spec =
     tie.close
-    (tie.spec (λ c κs. let f = c .before .before .pre .0 .few in omega arith) read-codes-requires own-codes-requires (λ c. search needs) check-all-requires (λ c. search needs) clear-requires (λ c. search needs) returns)
+    (tie.spec
+    (λ c κs. let f = c .before .before .pre .0 .few in omega arith)
+    read-codes-requires
+    own-codes-requires
+    (λ c. search needs)
+    check-all-requires
+    (λ c. search needs)
+    clear-requires
+    (λ c. search needs)
+    returns)

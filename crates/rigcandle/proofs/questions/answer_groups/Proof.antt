@@ -1,13 +1,12 @@
 -- The room, then the rows.
 use Prim.Native.Nat.{ℕ, _*_, _≤_}
 use mathlib.Core.Path.{_≡_, refl, sym, _∙_, ap, ap₂}
-use mathlib.Core.List.{List, []}
+use mathlib.Core.List.{List}
 use native.Mathlib.Omega.{arith}
 use borrow.Author.Needs.{needs}
 use borrow.Author.Tests.{ltb-false}
 use Rattle.rules.specs.Basics.{rowBytes}
-use Rattle.rules.specs.File.{boardOf, cellsOf}
-use Rattle.rules.specs.Drivers.{groupsOf}
+use Rattle.rules.specs.File.{cellsOf}
 use Rattle.rules.specs.Refusals.{judge, groupsChecks, mostCells}
 use Rattle.rules.proofs.Shape.{laid, shaped, one-block}
 use Rattle.rules.proofs.Verdicts.{passed}

@@ -8,7 +8,7 @@ use borrow.Author.Tests.{ltb-false}
 use Rattle.rules.specs.Basics.{rowBytes}
 use Rattle.rules.specs.File.{boardOf, cellsOf}
 use Rattle.rules.specs.Vectors.{totalOf}
-use Rattle.rules.specs.Refusals.{judge, fileChecks, boardChecks, marksChecks, mostCells}
+use Rattle.rules.specs.Refusals.{judge, boardChecks, marksChecks, mostCells}
 use Rattle.rules.specs.declared.Verdict.the-variants.{Accepted}
 use Rattle.rules.proofs.Shape.{laid, shaped, one-block}
 use Rattle.rules.proofs.Verdicts.{passed, stopped}

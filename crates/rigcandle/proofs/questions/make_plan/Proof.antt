@@ -1,7 +1,6 @@
 -- Admission decides; the function's own table is blank.
-use mathlib.Core.Path.{_≡_, sym, _∙_, ap}
+use mathlib.Core.Path.{_≡_, sym, _∙_}
 use borrow.Author.Needs.{needs}
-use native.Mathlib.Omega.{arith}
 use Rattle.rules.specs.Refusals.{judge, countChecks}
 use Rattle.rules.specs.declared.Verdict.the-variants as Verdict
 use Rattle.chains.proofs.TableLaws.{blank}

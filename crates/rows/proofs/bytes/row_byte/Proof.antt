@@ -7,6 +7,7 @@ use borrow.Author.Needs.{needs}
 use lib.Bits.{bitAnd, and-mask}
 use lib.ListN.{getD}
 use Rattle.rules.specs.Basics.{bit, word}
+use Rattle.rules.specs.File.{byteValues}
 use Rattle.rules.proofs.Digits.{word-same, word-cut}
 use Rattle.words.specs.Sets.{member}
 use Rattle.words.proofs.Words.{bit-shifted}
@@ -22,7 +23,7 @@ cell-digit ws j i h =
     rw (bit-shifted, q, r)
 
 -- the 8 lowest digits of a number
-low-byte : (n : ℕ) → bitAnd n 255 ≡ n % 256
+low-byte : (n : ℕ) → bitAnd n 255 ≡ n % byteValues
 low-byte n = and-mask n 8
 
 -- so the 8 lowest digits from there on are cells 8 j to 8 j + 7

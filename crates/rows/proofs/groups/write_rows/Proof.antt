@@ -6,7 +6,7 @@ use native.Mathlib.Numerals.{add-one}
 use native.Mathlib.Omega.{arith}
 use borrow.Author.Needs.{needs}
 use Rattle.rules.specs.Basics.{rowBytes}
-use Rattle.rules.specs.File.{boardOf, cellsOf}
+use Rattle.rules.specs.File.{boardOf}
 use Rattle.rules.specs.Groups as Groups
 use Rattle.rules.specs.Refusals.{mostCells}
 use Rattle.words.specs.Sets.{member}
