@@ -1,4 +1,4 @@
-"""What the program plans writes: N, p, G, SSOL and total of some plans, then
+"""What the program check_plans writes: N, p, G, SSOL and total of some plans, then
 every vector of two of them, its group and its net values from net 0 on.
 
     python3 plans.py FILE

@@ -7,11 +7,11 @@ use mathlib.Core.List.{List}
 use native.Mathlib.Omega.{arith}
 use borrow.Author.Tests.{eqb-true, eqb-false, lt-ltb, le-ltb}
 use lib.Dec.{eqb, ltb}
+use Rattle.base.proofs.TestLaws.{Searched}
+use Rattle.base.proofs.BoolLaws.{below-suc, order, left, passes-not}
 use Rattle.rules.specs.File.{blocksIn, cellsOf, recordsIn, headRight, cellBlockRight}
 use Rattle.rules.specs.Refusals.{blockWrong}
-use Rattle.rules.proofs.Searching.{Searched}
 use Rattle.rules.proofs.Shape.{whole-blocks}
-use Rattle.rules.proofs.Tests.{below-suc, order, left, passes-not}
 use Rattle.blocks.specs.Reading.{headOf, headIs, headLaid, headRightAt, moreRight, RightTo}
 use Rattle.blocks.specs.Places.{Headed}
 use Rattle.blocks.specs.declared.Head.{Head}

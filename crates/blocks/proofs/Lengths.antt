@@ -7,15 +7,15 @@ use native.Mathlib.Omega.{arith}
 use borrow.Author.Tests.{eqb-true, eqb-false, ltb-false}
 use lib.Dec.{eqb}
 use lib.ListN.{length, getD}
+use Rattle.base.proofs.BoolLaws.{or-neither, passes-not}
 use Rattle.rules.specs.File.{blockSize, blockRecords, byteValues, mostNumber, byteAt, numberAt, cellsOf, recordsIn}
 use Rattle.rules.specs.Refusals.{mostBlocks, wrongLength}
-use Rattle.rules.proofs.Tests.{or-neither, passes-not}
 
 -- the file has at least one block, and whole blocks, and at most 14
 pub record RightLength (file : List ℕ) : Type 0 where
-  pub some : blockSize ≤ length file
+  pub has-header : blockSize ≤ length file
   pub whole : blockSize * (length file / blockSize) ≡ length file
-  pub few : length file / blockSize ≤ mostBlocks
+  pub blocks-bounded : length file / blockSize ≤ mostBlocks
 
 pub right-length : (file : List ℕ) → wrongLength file ≡ false → RightLength file
 unfolding wrongLength
@@ -25,7 +25,7 @@ right-length file h =
     let n : length file ≡ 0 → ⊥ = eqb-false _ _ (odd .0) in
     let m : length file % blockSize ≡ 0 = eqb-true _ _ (passes-not _ (odd .1)) in
     let l : length file ≤ blockSize * mostBlocks = ltb-false _ _ (long .1) in
-    record { some = omega arith; whole = omega arith; few = omega arith }
+    record { has-header = omega arith; whole = omega arith; blocks-bounded = omega arith }
 
 -- "numbers little-endian", two bytes
 pub number-low : (file : List ℕ) (i : ℕ) → ((j : ℕ) → getD file j 0 < byteValues) → numberAt file i ≤ mostNumber

@@ -1,8 +1,7 @@
 -- The laws that the proofs of this crate share.
-pub mod Flags
-pub mod Adding
-pub mod Ranges
+pub mod SumLaws
+pub mod ZeroLaws
 pub mod Lengths
-pub mod Opening
+pub mod ReadingLaws
 pub mod Heading
 pub mod Shaping

@@ -5,12 +5,12 @@ use mathlib.Core.Bool.{Bool, true, false, not, _&&_}
 use mathlib.Core.List.{List, [], _∷_, _++_}
 use native.Mathlib.Omega.{arith}
 use borrow.Author.Tests.{ltb-true}
+use Rattle.base.proofs.BoolLaws.{passes-not}
 use Rattle.rules.specs.File.{blocksIn, headRight, headerRight}
 use Rattle.rules.specs.Refusals.{Check, judge, once, each, wrongLength, outside, blockWrong, shapeChecks}
 use Rattle.rules.specs.declared.Refusal.{Refusal}
 use Rattle.rules.specs.declared.Verdict.{Verdict}
 use Rattle.rules.specs.declared.Verdict.the-variants.{Accepted, Refused as RefusedBy}
-use Rattle.rules.proofs.Tests.{passes-not}
 use Rattle.rules.proofs.Verdicts.{Then, then-append, all-pass}
 use Rattle.blocks.specs.Reading.{sumsCheck, BlocksOf, verdictOf, RightTo}
 use Rattle.blocks.specs.Places.{Headed}

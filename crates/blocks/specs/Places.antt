@@ -12,7 +12,7 @@ use Rattle.blocks.specs.declared.Heads.{Heads}
 -- block i is whole in the file, and i is a place
 pub record Whole (file : List ℕ) (i : ℕ) : Type 0 where
   pub whole : blockSize * (i + 1) ≤ length file
-  pub low : i ≤ mostNumber
+  pub place-bounded : i ≤ mostNumber
 
 -- refusal 1 has passed, and so many heads are right, from block 0 on
 pub record Headed (file : List ℕ) (heads : Heads) : Type 0 where

@@ -8,14 +8,15 @@ use mathlib.Core.List.{List}
 use native.Mathlib.Omega.{arith}
 use borrow.Author.Tests.{eqb-true, eqb-false, eq-eqb, ne-eqb}
 use lib.Dec.{eqb}
+use Rattle.base.proofs.BoolLaws.{decided, left, right, both, or-left, or-right, or-cases, not-fails, fails-not, fails-if, clashes, order}
+use Rattle.base.proofs.TestLaws.{any-at, none-any}
 use Rattle.rules.specs.File.{Board, boardOf, cellsOf}
 use Rattle.rules.specs.Drivers.{driverAt, controlled, controlFor, alwaysOn, onNet, outputOf}
 use Rattle.rules.specs.Refusals.{clash, clashing}
 use Rattle.rules.specs.declared.Position.{Position}
 use Rattle.rules.specs.declared.Net.{Net}
 use Rattle.rules.specs.declared.Driver.the-variants.{Of, Nothing}
-use Rattle.rules.proofs.Tests.{decided, left, right, both, or-left, or-right, or-cases, not-fails, fails-not, fails-if, clashes, order, any-at, none-any}
-use Rattle.rules.proofs.Driving.{kinds-differ}
+use Rattle.rules.proofs.NetSetLaws.{kinds-differ}
 use Rattle.rules.proofs.DriverLaws.{is-driver, no-driver}
 use Rattle.words.specs.Sets.{plus}
 use Rattle.chains.specs.Table.{NetOf, room, headIn, linkIn}

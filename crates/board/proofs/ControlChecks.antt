@@ -8,29 +8,29 @@ use mathlib.Core.List.{List}
 use native.Mathlib.Omega.{arith}
 use borrow.Author.Tests.{eqb-true, eqb-false, eq-eqb, ne-eqb, lt-ltb, ltb-true}
 use lib.Dec.{eqb, ltb}
-use Rattle.rules.specs.Basics.{any, seek}
+use Rattle.base.specs.Tests.{any, seek}
+use Rattle.base.proofs.BoolLaws.{decided, left, right, both, or-left, not-fails, fails-not, clashes, fails-if, order, same-test}
+use Rattle.base.proofs.TestLaws.{any-at, any-member, none-any, seek-lowest, Searched}
 use Rattle.rules.specs.File.{Board, boardOf, cellsOf, netsOf, netOf}
 use Rattle.rules.specs.Drivers.{controlled, controlFor, isControl, onNet, driverOf, drives, drivers, meets, inside, crosses}
 use Rattle.rules.specs.Refusals.{judge, crossed, unequal, fileChecks}
 use Rattle.rules.specs.declared.Verdict.the-variants.{Accepted}
-use Rattle.rules.proofs.Tests.{decided, left, right, both, or-left, not-fails, fails-not, clashes, fails-if, order, same-test, any-at, any-member, none-any, seek-lowest}
-use Rattle.rules.proofs.Driving.{drives-driver, meets-net}
+use Rattle.rules.proofs.NetSetLaws.{drives-driver, meets-net}
 use Rattle.rules.proofs.Shape.{laid, shaped, whole-records}
 use Rattle.rules.proofs.DriverLaws.{kept-control, kept-net}
-use Rattle.rules.proofs.Searching.{Searched}
-use Rattle.words.specs.Sets.{netWords, cellWords, meetsIn, insideIn, lieBy, lieOf}
-use Rattle.words.proofs.Bounds.{meets-bound, inside-bound}
+use Rattle.words.specs.Sets.{netWords, cellWords, meetsIn, insideIn, relationBy, relationOf}
+use Rattle.words.proofs.SetLaws.{meets-bound, inside-bound}
 use Rattle.chains.specs.Table.{ControlCell, headIn}
 use Rattle.chains.specs.Chains.{keyed, Chains}
 use Rattle.chains.specs.Sharing.{partnersOf}
-use Rattle.board.specs.Controls.{isCrossing, driversAt, anyOther, Idle}
 use Rattle.chains.proofs.Chaining.{keyed-control}
 use Rattle.chains.proofs.Walks.{cell-fits, none-keyed}
 use Rattle.chains.proofs.Brought.{own-net}
+use Rattle.board.specs.Controls.{isCrossing, driversAt, anyOther, Idle}
 use Rattle.board.proofs.Crossings.{crossed-idle}
 
 -- crossing is: meeting, and neither inside the other
-crossing-by : (x y z : Bool) → isCrossing (lieBy x y z) ≡ (z && not x && not y)
+crossing-by : (x y z : Bool) → isCrossing (relationBy x y z) ≡ (z && not x && not y)
 unfolding isCrossing
 crossing-by true true true = refl
 crossing-by true true false = refl
@@ -71,10 +71,10 @@ module _ (file : List ℕ) (ok : judge (fileChecks file) ≡ Accepted) where
   past k i l = fails-if _ (λ t. let b = drives-low k i t in omega arith)
 
   pub nets-fit : netsOf file ≤ 64 * netWords
-  nets-fit = let f = laid file (shaped file ok) .nets .few in omega arith
+  nets-fit = let f = laid file (shaped file ok) .nets .at-most in omega arith
 
-  crossing-sets : (i j : ℕ) → isCrossing (lieOf (64 * netWords) (drives (boardOf file) i) (drives (boardOf file) j)) ≡ (meets (boardOf file) i j && not (inside (boardOf file) i j) && not (inside (boardOf file) j i))
-  unfolding lieOf meets inside meetsIn insideIn boardOf
+  crossing-sets : (i j : ℕ) → isCrossing (relationOf (64 * netWords) (drives (boardOf file) i) (drives (boardOf file) j)) ≡ (meets (boardOf file) i j && not (inside (boardOf file) i j) && not (inside (boardOf file) j i))
+  unfolding relationOf meets inside meetsIn insideIn boardOf
   crossing-sets i j =
       crossing-by (insideIn (64 * netWords) (drives (boardOf file) i) (drives (boardOf file) j)) (insideIn (64 * netWords) (drives (boardOf file) j) (drives (boardOf file) i)) (meetsIn (64 * netWords) (drives (boardOf file) i) (drives (boardOf file) j))
       ∙ ap₂ (λ (x y : Bool). x && y)
@@ -82,10 +82,10 @@ module _ (file : List ℕ) (ok : judge (fileChecks file) ≡ Accepted) where
       (ap not (inside-bound (drives (boardOf file) j) (drives (boardOf file) i) nets-fit (λ m l u. past j m l)))
 
   -- how the two sets lie says whether the control cells cross
-  pub crosses-is : (i j : ℕ) (f g : ℕ → Bool) → f ≡ drives (boardOf file) i → g ≡ drives (boardOf file) j → isCrossing (lieOf (64 * netWords) f g) ≡ crosses (boardOf file) i j
+  pub crosses-is : (i j : ℕ) (f g : ℕ → Bool) → f ≡ drives (boardOf file) i → g ≡ drives (boardOf file) j → isCrossing (relationOf (64 * netWords) f g) ≡ crosses (boardOf file) i j
   unfolding crosses
   crosses-is i j f g e h =
-      ap₂ (λ (x y : ℕ → Bool). isCrossing (lieOf (64 * netWords) x y)) e h ∙ crossing-sets i j ∙ same-test _ _ forth back
+      ap₂ (λ (x y : ℕ → Bool). isCrossing (relationOf (64 * netWords) x y)) e h ∙ crossing-sets i j ∙ same-test _ _ forth back
     where
       b : Board
       b = boardOf file

@@ -4,11 +4,12 @@ use mathlib.Core.Path.{_≡_, _∙_}
 use mathlib.Core.Bool.{true, false, not, _&&_}
 use borrow.Author.Tests.{eq-eqb, ltb-true}
 use lib.Dec.{ltb}
+use Rattle.base.proofs.BoolLaws.{left, right, both, fails-not, fails-if, clashes}
+use Rattle.base.proofs.TestLaws.{none-any}
 use Rattle.rules.specs.File.{Board}
 use Rattle.rules.specs.Drivers.{isControl, onNet, driverOf, drives, meets, inside, crosses}
 use Rattle.rules.specs.Refusals.{crossed}
-use Rattle.rules.proofs.Tests.{left, right, both, fails-not, fails-if, clashes, none-any}
-use Rattle.rules.proofs.Driving.{meets-net, drives-driver}
+use Rattle.rules.proofs.NetSetLaws.{meets-net, drives-driver}
 use Rattle.chains.specs.Table.{ControlCell}
 use Rattle.chains.specs.Chains.{keyed}
 use Rattle.chains.proofs.Chaining.{keyed-control}

@@ -6,12 +6,13 @@ use mathlib.Core.List.{List, [], _∷_}
 use native.Mathlib.Omega.{arith}
 use borrow.Author.Tests.{ne-eqb}
 use lib.Dec.{eqb, ltb}
-use Rattle.rules.specs.Basics.{any}
+use Rattle.base.specs.Tests.{any}
+use Rattle.base.proofs.BoolLaws.{same-test}
+use Rattle.base.proofs.TestLaws.{any-at, any-member}
 use Rattle.rules.specs.File.{Board, boardOf, cellsOf, netsOf}
 use Rattle.rules.specs.Drivers.{drivers}
 use Rattle.rules.specs.Refusals.{judge, each, undriven, clashing, crowded, mostDrivers, mostNets, netChecks}
 use Rattle.rules.specs.declared.Verdict.{Verdict}
-use Rattle.rules.proofs.Tests.{same-test, any-at, any-member}
 use Rattle.rules.proofs.Shape.{laid, shaped}
 use Rattle.rules.proofs.Verdicts.{andThen, Then, judge-then, judge-same}
 use Rattle.chains.specs.Table.{NetOf}
@@ -38,7 +39,7 @@ any-same n p q h =
 
 module _ (file t : List ℕ) (nets : ℕ) (filled : Filled file t) (e : nets ≡ netsOf file) where
   pub nets-fit : nets ≤ mostNets
-  nets-fit = let f = laid file (shaped file (filled .by-net .checked)) .nets .few in omega arith
+  nets-fit = let f = laid file (shaped file (filled .by-net .checked)) .nets .at-most in omega arith
 
   undriven-is : (n : ℕ) → n < nets → undriven (boardOf file) n ≡ undrivenIn t n
   unfolding undriven undrivenIn boardOf

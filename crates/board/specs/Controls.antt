@@ -4,16 +4,16 @@ use mathlib.Core.Path.{_≡_}
 use mathlib.Core.Bool.{Bool, true, false, cond, not, _&&_}
 use mathlib.Core.List.{List}
 use lib.Dec.{eqb}
-use Rattle.rules.specs.Basics.{any}
+use Rattle.base.specs.Tests.{any}
 use Rattle.rules.specs.File.{Board, netOf}
 use Rattle.rules.specs.Drivers.{controlled, drivers}
-use Rattle.words.specs.declared.Lie.{Lie}
-use Rattle.words.specs.declared.Lie.the-variants.{Apart, Inside, Holds, Equal, Crossing}
+use Rattle.words.specs.declared.Relation.{Relation}
+use Rattle.words.specs.declared.Relation.the-variants.{Apart, Inside, Holds, Equal, Crossing}
 use Rattle.chains.specs.Table.{ControlCell, headIn}
 use Rattle.chains.specs.Chains.{keyed}
 
 -- the one way that two net sets may not lie
-unfoldable pub isCrossing : Lie → Bool
+unfoldable pub isCrossing : Relation → Bool
 isCrossing Apart = false
 isCrossing Inside = false
 isCrossing Holds = false

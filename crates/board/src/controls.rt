@@ -7,7 +7,7 @@ ghost use Prim.Native.Nat.{_+_, _<_, _≤_, _*_};
 ghost use Rattle.rules.specs.File.{boardOf, cellsOf};
 ghost use Rattle.rules.specs.Drivers.{controlled};
 ghost use Rattle.rules.specs.Refusals.{judge, each, crossed, unequal, mostCells};
-ghost use Rattle.words.specs.Sets.{netWords, member, lieOf};
+ghost use Rattle.words.specs.Sets.{netWords, member, relationOf};
 ghost use Rattle.chains.specs.Table.{ControlCell};
 ghost use Rattle.chains.specs.Chains.{Chains};
 ghost use Rattle.chains.specs.Counts.{Counted};
@@ -25,20 +25,20 @@ use chains::sharing::nets_of;
 use chains::sharing::partners;
 use rules::Position;
 use rules::Verdict;
-use words::Lie;
 use words::NetSet;
+use words::Relation;
 
 // Two net sets meet and neither holds the other.
 fn crossing(a: NetSet, b: NetSet) -> bool
-    ensures { λ r. ⌜ r ≡ isCrossing (lieOf (64 * netWords) (member (a .words)) (member (b .words))) ⌝ }
+    ensures { λ r. ⌜ r ≡ isCrossing (relationOf (64 * netWords) (member (a .words)) (member (b .words))) ⌝ }
 {
-    let lie = a.compare(b);
-    match lie {
-        Lie::Apart => false,
-        Lie::Inside => false,
-        Lie::Holds => false,
-        Lie::Equal => false,
-        Lie::Crossing => true,
+    let relation = a.compare(b);
+    match relation {
+        Relation::Apart => false,
+        Relation::Inside => false,
+        Relation::Holds => false,
+        Relation::Equal => false,
+        Relation::Crossing => true,
     }
 }
 

@@ -20,7 +20,7 @@ use rules::MOST_DRIVERS;
 use rules::Net;
 use rules::Verdict;
 use words::CELL_WORDS;
-use words::core;
+use words::loops;
 
 // Refusal 7: a net without an output.
 fn undriven_verdict(table: &[u16; TABLE], nets: usize) -> Verdict
@@ -67,10 +67,10 @@ fn several_clash(file: &[u8], table: &[u16; TABLE], n: Net) -> bool
         let Driver::Of(k, _) = driver else {
             return true;
         };
-        if core::has(&met, k.0 as usize) {
+        if loops::has(&met, k.0 as usize) {
             return true;
         }
-        core::add(&mut met, k.0 as usize);
+        loops::add(&mut met, k.0 as usize);
         at = net_link(table, c);
     }
     false

@@ -6,13 +6,14 @@ use mathlib.Core.List.{List}
 use native.Mathlib.Omega.{arith}
 use borrow.Author.Tests.{eqb-true, eq-eqb}
 use lib.Dec.{eqb, ltb}
-use Rattle.rules.specs.Basics.{any}
+use Rattle.base.specs.Tests.{any}
+use Rattle.base.proofs.BoolLaws.{left, right, both, or-left, same-test, eqb-back}
+use Rattle.base.proofs.TestLaws.{any-at, any-member}
 use Rattle.rules.specs.File.{Board, boardOf, cellsOf, netsOf, netOf}
 use Rattle.rules.specs.Drivers.{controlled, controlFor, onNet, outputOf, driverOf, drives, meets}
 use Rattle.rules.specs.Refusals.{judge, fileChecks}
 use Rattle.rules.specs.declared.Verdict.the-variants.{Accepted}
-use Rattle.rules.proofs.Tests.{left, right, both, or-left, same-test, any-at, any-member, eqb-back}
-use Rattle.rules.proofs.Driving.{driver-output, drives-driver, driver-own, meets-at, meets-net}
+use Rattle.rules.proofs.NetSetLaws.{driver-output, drives-driver, driver-own, meets-at, meets-net}
 use Rattle.rules.proofs.Shape.{laid, shaped, whole-records}
 use Rattle.rules.proofs.DriverLaws.{kept-net}
 use Rattle.words.specs.Sets.{netWords, nothing, plus}
@@ -125,5 +126,5 @@ pub chained-net : (file : List ℕ) → judge (fileChecks file) ≡ Accepted →
 unfolding boardOf
 chained-net file ok k c l h =
     let b = known-net file ok c l (keyed-controlled (boardOf file) k c h) in
-    let f = laid file (shaped file ok) .nets .few in
+    let f = laid file (shaped file ok) .nets .at-most in
     omega arith

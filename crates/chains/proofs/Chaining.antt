@@ -9,7 +9,8 @@ use native.Mathlib.Omega.{arith}
 use borrow.Author.Tests.{eqb-true, eq-eqb}
 use lib.Dec.{eqb}
 use lib.ListN.{length, getD}
-use Rattle.rules.specs.Basics.{any}
+use Rattle.base.specs.Tests.{any}
+use Rattle.base.proofs.BoolLaws.{decided, fails-if, clashes, below-suc}
 use Rattle.rules.specs.File.{Board, boardOf, cellsOf, netOf, brokenAt}
 use Rattle.rules.specs.Drivers.{controlled, controlFor, alwaysOn, onNet, outputOf}
 use Rattle.rules.specs.Refusals.{judge, fileChecks, mostCells}
@@ -17,11 +18,10 @@ use Rattle.rules.specs.declared.Cell.{Cell}
 use Rattle.rules.specs.declared.Verdict.the-variants.{Accepted}
 use Rattle.rules.proofs.Shape.{laid, shaped, whole-records}
 use Rattle.rules.proofs.DriverLaws.{isOutput, output-is, kept-control, kept-net}
-use Rattle.rules.proofs.Tests.{decided, fails-if, clashes, below-suc}
 use Rattle.chains.specs.Table.{By, ControlCell, NetOf, linksFrom, room, headIn, linkIn, spliced, Same}
 use Rattle.chains.specs.Chains.{last, keyAt, isKey, keyed, Linked}
-use Rattle.chains.proofs.TableLaws.{spliced-head, spliced-link, spliced-other}
 use Rattle.chains.specs.declared.Key.the-variants.{Of, Nothing}
+use Rattle.chains.proofs.TableLaws.{spliced-head, spliced-link, spliced-other}
 
 -- one more number: it is the last where it passes, else the last stays
 pub last-passes : (n : ℕ) (p : ℕ → Bool) → p n ≡ true → last (suc n) p ≡ suc n
@@ -162,12 +162,12 @@ key-below file ok by c x l e = go by e
     go ControlCell h =
         let q = picked _ _ h in
         let k = kept-control file whole c l (q .0) .0 in
-        let cells = laid file (shaped file ok) .cells .few in
+        let cells = laid file (shaped file ok) .cells .at-most in
         rw (← q .1) (omega arith)
     go NetOf h =
         let q = picked _ _ h in
         let n = kept-net file whole c l (q .0) in
-        let nets = laid file (shaped file ok) .nets .few in
+        let nets = laid file (shaped file ok) .nets .at-most in
         rw (← q .1) (omega arith)
 
 -- a walk along a chain, looking for a member that passes q: nothing above `at` has

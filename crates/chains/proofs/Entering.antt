@@ -6,7 +6,7 @@ use mathlib.Core.List.{List}
 use native.Mathlib.Omega.{arith}
 use lib.ListN.{length, getD, set}
 use lib.Seq.{getD-set-other}
-use Rattle.rules.specs.Basics.{count}
+use Rattle.base.specs.Counting.{count}
 use Rattle.rules.specs.File.{Board, boardOf, cellsOf}
 use Rattle.rules.specs.Drivers.{driverAt}
 use Rattle.rules.specs.Refusals.{judge, fileChecks, mostCells, mostNets}
@@ -71,13 +71,13 @@ module _ (file : List ℕ) (by : By) (c : ℕ) (t : List ℕ) (g : Grown file by
   grown-add long l x e =
       record {
         checked = g .checked;
-        linked = linked-add (boardOf file) by c t (g .linked) x e (key-below file (g .checked) by c x l e) (let f = laid file (shaped file (g .checked)) .cells .few in omega arith) long;
+        linked = linked-add (boardOf file) by c t (g .linked) x e (key-below file (g .checked) by c x l e) (let f = laid file (shaped file (g .checked)) .cells .at-most in omega arith) long;
       }
 
 -- a part that another store leaves
 pub grown-same : (file : List ℕ) (by : By) (n : ℕ) (t t′ : List ℕ) → n ≤ cellsOf file → Grown file by n t → Same (linksFrom by) (linksFrom by + (mostCells + room by)) t t′ → Grown file by n t′
 grown-same file by n t t′ l g same =
-    let f = laid file (shaped file (g .checked)) .cells .few in
+    let f = laid file (shaped file (g .checked)) .cells .at-most in
     record { checked = g .checked; linked = linked-same (boardOf file) by n t t′ (omega arith) same (g .linked) }
 
 -- the families and the numbers of drivers lie apart
@@ -103,7 +103,7 @@ apart-counts by c x t l m =
 
 module _ (file : List ℕ) (c : ℕ) (t : List ℕ) (so-far : Entered file c t) (l : c < cellsOf file) where
   few : c < mostCells
-  few = let f = laid file (shaped file (so-far .by-net .checked)) .cells .few in omega arith
+  few = let f = laid file (shaped file (so-far .by-net .checked)) .cells .at-most in omega arith
 
   pub enter-none : keyAt (boardOf file) NetOf c ≡ Nothing → Entered file (c + 1) t
   enter-none e =

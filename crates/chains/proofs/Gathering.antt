@@ -4,7 +4,7 @@ use mathlib.Core.Path.{_≡_, refl, sym, _∙_, ap, ap₂}
 use mathlib.Core.Bool.{Bool, true, false, _||_, or-false}
 use mathlib.Core.List.{List}
 use native.Mathlib.Omega.{arith}
-use Rattle.rules.specs.Basics.{any}
+use Rattle.base.specs.Tests.{any}
 use Rattle.rules.specs.File.{boardOf, cellsOf}
 use Rattle.chains.specs.Table.{By, room, headIn, linkIn}
 use Rattle.chains.specs.Chains.{keyed, last, Chains}

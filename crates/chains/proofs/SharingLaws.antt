@@ -6,17 +6,17 @@ use mathlib.Core.List.{List}
 use native.Mathlib.Omega.{arith}
 use borrow.Author.Tests.{eqb-true, lt-ltb, ltb-true}
 use lib.Dec.{eqb, ltb}
+use Rattle.base.proofs.BoolLaws.{left, right, both, fails-if, same-test, eqb-back}
 use Rattle.rules.specs.File.{Board, boardOf}
 use Rattle.rules.specs.Drivers.{driverAt}
 use Rattle.rules.specs.declared.Position.{Position}
 use Rattle.rules.specs.declared.Net.{Net}
-use Rattle.rules.proofs.Tests.{left, right, both, fails-if, same-test, eqb-back}
+use Rattle.rules.specs.declared.Driver.the-variants.{Of, Nothing}
 use Rattle.rules.proofs.Shape.{laid, shaped}
+use Rattle.rules.proofs.DriverLaws.{is-driver, no-driver, net-below, control-below}
 use Rattle.words.specs.Sets.{netWords, cellWords, plus}
 use Rattle.cells.specs.Whole.{Whole}
 use Rattle.chains.specs.Sharing.{withControl, withSharers, withControls}
-use Rattle.rules.specs.declared.Driver.the-variants.{Of, Nothing}
-use Rattle.rules.proofs.DriverLaws.{is-driver, no-driver, net-below, control-below}
 
 module _ (b : Board) (c : ℕ) (f : ℕ → Bool) where
   -- a cell that drives nothing brings nothing
@@ -53,11 +53,11 @@ module _ (file : List ℕ) (c : ℕ) (w : Whole file c) (k : Position) (n : Net)
   pub net-fits : n .0 < 64 * netWords
   net-fits =
       let b = net-below file (w .checked) c (w .below) k n e in
-      let f = laid file (shaped file (w .checked)) .nets .few in
+      let f = laid file (shaped file (w .checked)) .nets .at-most in
       omega arith
 
   pub control-fits : k .0 < 64 * cellWords
   control-fits =
       let b = control-below file (w .checked) c (w .below) k n e in
-      let f = laid file (shaped file (w .checked)) .cells .few in
+      let f = laid file (shaped file (w .checked)) .cells .at-most in
       omega arith

@@ -5,8 +5,8 @@ use mathlib.Core.List.{List}
 use native.Mathlib.Omega.{arith}
 use lib.ListN.{length, getD, set, length-set, replicate, length-replicate}
 use lib.Seq.{getD-set-same, getD-set-other}
+use Rattle.base.proofs.ListLaws.{zero-at}
 use Rattle.rules.specs.Refusals.{mostCells, mostNets}
-use Rattle.words.proofs.Members.{zero-at}
 use Rattle.chains.specs.Table.{countsFrom, tableSize, spliced, oneMore, countIn, Blank, Same}
 
 -- a table of zeros is blank

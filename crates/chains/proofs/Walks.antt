@@ -4,25 +4,25 @@ use mathlib.Core.Path.{_≡_, sym, _∙_, ap}
 use mathlib.Core.Bool.{Bool, true, false}
 use mathlib.Core.List.{List}
 use native.Mathlib.Omega.{arith}
-use Rattle.rules.specs.Basics.{any}
+use Rattle.base.specs.Tests.{any}
+use Rattle.base.proofs.TestLaws.{any-none}
 use Rattle.rules.specs.File.{boardOf, cellsOf, netsOf}
-use Rattle.rules.proofs.Tests.{any-none}
-use Rattle.rules.proofs.Shape.{laid, shaped}
 use Rattle.rules.specs.Refusals.{judge, fileChecks, mostCells, mostNets}
 use Rattle.rules.specs.declared.Verdict.the-variants.{Accepted}
+use Rattle.rules.proofs.Shape.{laid, shaped}
 use Rattle.chains.specs.Table.{By, room, headIn, linkIn}
 use Rattle.chains.specs.Chains.{keyed, Chains}
 use Rattle.chains.proofs.Chaining.{last-le, Walking, walk-start, walk-next, walk-found, walk-ended, walk-member}
 
 -- the cells and the nets of a whole file fit the table
 pub cell-fits : (file : List ℕ) → judge (fileChecks file) ≡ Accepted → (c : ℕ) → c < cellsOf file → c < mostCells
-cell-fits file ok c l = let f = laid file (shaped file ok) .cells .few in omega arith
+cell-fits file ok c l = let f = laid file (shaped file ok) .cells .at-most in omega arith
 
 pub net-fits : (file : List ℕ) → judge (fileChecks file) ≡ Accepted → (n : ℕ) → n < netsOf file → n < mostNets
-net-fits file ok n l = let f = laid file (shaped file ok) .nets .few in omega arith
+net-fits file ok n l = let f = laid file (shaped file ok) .nets .at-most in omega arith
 
 pub cells-fit : (file : List ℕ) → judge (fileChecks file) ≡ Accepted → cellsOf file ≤ mostCells
-cells-fit file ok = laid file (shaped file ok) .cells .few
+cells-fit file ok = laid file (shaped file ok) .cells .at-most
 
 -- 1 + (at - 1) is at
 pub above : (at : ℕ) → 0 < at → suc (at - 1) ≡ at

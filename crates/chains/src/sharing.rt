@@ -22,7 +22,7 @@ use rules::Position;
 use words::CellSet;
 use words::NET_WORDS;
 use words::NetSet;
-use words::core;
+use words::loops;
 
 // The net set of control cell k, gathered where it stands.
 pub fn nets_of(file: &[u8], table: &[u16; TABLE], k: Position) -> NetSet
@@ -35,7 +35,7 @@ pub fn nets_of(file: &[u8], table: &[u16; TABLE], k: Position) -> NetSet
     while 0 < at {
         let c = cell_named(at);
         let n = net_at(file, c.0 as usize);
-        core::add(&mut words, n.0 as usize);
+        loops::add(&mut words, n.0 as usize);
         at = link(table, c);
     }
     NetSet { words }

@@ -6,16 +6,17 @@ use mathlib.Core.Logic.{⊎-elim}
 use native.Mathlib.Nat.{pow-le-pow-right}
 use native.Mathlib.Omega.{arith}
 use lib.Dec.{lit<}
-use Rattle.io.specs.Digits.{Fewest}
-use Rattle.rules.proofs.Tests.{order}
-use Rattle.rules.specs.Basics.{ceil, rowBytes}
+use Rattle.base.specs.Digits.{ceil}
+use Rattle.base.proofs.BoolLaws.{order}
+use Rattle.rules.specs.Rows.{rowBytes}
 use Rattle.rules.specs.File.{cellsOf}
 use Rattle.rules.specs.Refusals.{mostCells, mostBytes}
 use Rattle.rules.proofs.Shape.{laid, shaped}
 use Rattle.select.specs.Turns.{Ready}
+use Rattle.io.specs.Digits.{Fewest}
 
 pub few-cells : (file t : List ℕ) (cells : ℕ) → Ready file t → cells ≡ cellsOf file → cells ≤ mostCells
-few-cells file t cells r e = let f = laid file (shaped file (r .by-control .checked)) .cells .few in omega arith
+few-cells file t cells r e = let f = laid file (shaped file (r .by-control .checked)) .cells .at-most in omega arith
 
 pub row-short : (cells : ℕ) → cells ≤ mostCells → rowBytes cells ≤ mostBytes
 unfolding rowBytes ceil

@@ -1,5 +1,5 @@
 -- The laws of readings and marks, for the functions of this crate and for its callers.
-pub mod Inputs
-pub mod Growing
-pub mod Marking
-pub mod Tables
+pub mod InputLaws
+pub mod TestedLaws
+pub mod MarkedLaws
+pub mod MarksByReadings

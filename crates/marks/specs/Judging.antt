@@ -5,7 +5,8 @@ use mathlib.Core.Bool.{Bool, not, _&&_, _||_}
 use mathlib.Core.List.{List, [], _∷_}
 use lib.Dec.{eqb}
 use lib.ListN.{length, getD}
-use Rattle.rules.specs.Basics.{digit, any, table}
+use Rattle.base.specs.Tests.{digit, any}
+use Rattle.base.specs.Lists.{table}
 use Rattle.rules.specs.File.{Board, cellsOf, netsOf}
 use Rattle.rules.specs.Drivers.{isInput, onNet}
 use Rattle.rules.specs.Marks.{inputOf, unseen, firstGiven, byteOf, bytesThat, isPass, isFail, isUnsure}
@@ -108,7 +109,7 @@ oneMore counts byte =
     record { pass = counts .pass + digit (isPass byte); fail = counts .fail + digit (isFail byte); unsure = counts .unsure + digit (isUnsure byte) }
 
 -- none of the numbers is over the most nets that a board has
-pub record Few (counts : Counts) : Type 0 where
+pub record CountsBounded (counts : Counts) : Type 0 where
   pub pass : counts .pass ≤ mostNets
   pub fail : counts .fail ≤ mostNets
   pub unsure : counts .unsure ≤ mostNets

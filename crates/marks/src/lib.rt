@@ -4,12 +4,12 @@ ghost use mathlib.Core.List.{List};
 ghost use Prim.Native.Nat.{ℕ, _+_, _*_, _<_, _≤_};
 ghost use lib.ListN.{length};
 ghost use Rattle.rules.specs.Answers.{over};
-ghost use Rattle.rules.specs.Basics as Basics;
+ghost use Rattle.base.specs.Tests as Base;
 ghost use Rattle.rules.specs.File.{Board, boardOf, cellsOf};
 ghost use Rattle.rules.specs.Marks.{byteOf};
 ghost use Rattle.words.specs.Sets.{netWords, member};
 ghost use Rattle.cells.specs.Whole.{Sized};
-ghost use Rattle.marks.specs.Judging.{readerIn, plusRead, Readings, TestedBelow, Tested, markFor, markIn, oneMore, Few, Marked, marksBy, Counted};
+ghost use Rattle.marks.specs.Judging.{readerIn, plusRead, Readings, TestedBelow, Tested, markFor, markIn, oneMore, CountsBounded, Marked, marksBy, Counted};
 use cells::cell_at;
 use rules::Cell;
 use rules::Mark;
@@ -162,7 +162,7 @@ fn byte_of(mark: Mark) -> u8
 
 // 1 where the test passes, else 0.
 fn digit(test: bool) -> usize
-    ensures { λ r. ⌜ r ≡ Basics.digit test ⌝ }
+    ensures { λ r. ⌜ r ≡ Base.digit test ⌝ }
 {
     if test {
         return 1;
@@ -172,7 +172,7 @@ fn digit(test: bool) -> usize
 
 // The counts with one mark byte more.
 fn count_byte(counts: Counts, byte: u8) -> Counts
-    requires { ⌜ Few counts ⌝ }
+    requires { ⌜ CountsBounded counts ⌝ }
     ensures { λ r. ⌜ r ≡ oneMore counts byte ⌝ }
 {
     let pass = counts.pass + digit(byte == 0);

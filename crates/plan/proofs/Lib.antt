@@ -1,7 +1,7 @@
 -- The laws of codes and of steps that the functions of this crate share.
-pub mod Coding
+pub mod WidthLaws
 pub mod Patterns
-pub mod Stepping
-pub mod Repeating
-pub mod Mixing
-pub mod Planned
+pub mod StepLaws
+pub mod RoundLaws
+pub mod MixLaws
+pub mod PlanningLaws

@@ -2,19 +2,19 @@
 use Prim.Native.Nat.{ℕ, zero, suc, _+_, _*_, _-_, _/_, _%_, _^_, _≤_, _<_}
 use mathlib.Core.Path.{_≡_, refl, sym, _∙_, ap, fun-ext}
 use mathlib.Core.Logic.{⊎-elim}
-use mathlib.Core.Bool.{Bool, true, false, cond, not, xor, _||_}
+use mathlib.Core.Bool.{Bool, true, false, cond, not, xor}
 use mathlib.Core.List.{List, [], _∷_}
-use native.Mathlib.Nat.{eq-or-lt-of-le}
 use native.Mathlib.Omega.{arith}
 use borrow.Author.Tests.{eq-eqb, ne-eqb, lt-ltb, le-ltb}
 use lib.Dec.{ltb, eqb}
 use lib.ListN.{getD}
-use lib.Pow.{pow-pos}
-use Rattle.rules.specs.Basics.{all, bit}
-use Rattle.rules.proofs.Tests.{alike, fails-not, all-at, order}
+use Rattle.base.specs.Tests.{all}
+use Rattle.base.specs.Digits.{bit}
+use Rattle.base.proofs.BoolLaws.{alike, fails-not, order}
+use Rattle.base.proofs.TestLaws.{all-at}
+use Rattle.base.proofs.WordLaws.{bit-zero, bit-pow, bit-shifted, bit-ones}
 use Rattle.words.specs.Sets.{member, nothing}
-use Rattle.words.proofs.Members.{Written}
-use Rattle.words.proofs.Words.{bit-zero, bit-pow, bit-top, bit-shifted}
+use Rattle.words.proofs.SetLaws.{Written}
 
 -- digits 0 to 5 of the codes 1 to 64
 abbrev lowWords : List ℕ
@@ -60,25 +60,6 @@ high-word s w v k e l h = ⊎-elim below last (order k 63)
 
     last : 63 ≤ k → cond (ltb k 63) (bit w (s - 6)) (bit v (s - 6)) ≡ bit (64 * w + k + 1) s
     last q = rw (le-ltb k 63 q) (up v (omega arith))
-
--- 2 ^ n - 1 has the n lowest digits
-pub bit-ones : (n k : ℕ) → bit (2 ^ n - 1) k ≡ ltb k n
-bit-ones zero k = bit-zero k ∙ sym (le-ltb k 0 (omega arith))
-bit-ones (suc n) k =
-    let z = pow-pos n in
-    let e : 2 ^ suc n - 1 ≡ 2 ^ n + (2 ^ n - 1) = omega arith in
-    ap (λ (w : ℕ). bit w k) e ∙ bit-top n (2 ^ n - 1) (omega arith) k ∙ ap (λ (a : Bool). eqb k n || a) (bit-ones n k) ∙ more
-  where
-    more : (eqb k n || ltb k n) ≡ ltb k (suc n)
-    more =
-        ⊎-elim
-        (λ (l : k < n). rw (ne-eqb k n (λ e. omega arith), lt-ltb k n l, lt-ltb k (suc n) (omega arith)))
-        (λ (l : n ≤ k).
-        ⊎-elim
-        (λ (e : n ≡ k). rw (eq-eqb k n (sym e), lt-ltb k (suc n) (omega arith)))
-        (λ (q : n < k). rw (ne-eqb k n (λ e. omega arith), le-ltb k n l, le-ltb k (suc n) (omega arith)))
-        (eq-or-lt-of-le l))
-        (order k n)
 
 -- 63 digits of one value, and the highest of another
 abbrev spreadOf : Bool → Bool → ℕ

@@ -2,13 +2,16 @@
 use Prim.Native.Nat.{ℕ, zero, suc, _+_, _*_, _-_, _/_, _%_, _≤_, _<_}
 use mathlib.Core.Path.{_≡_}
 use mathlib.Core.Bool.{Bool, cond}
-use Rattle.rules.specs.Basics.{bit, ceil, count}
+use Rattle.base.specs.Digits.{bit, ceil}
+use Rattle.base.specs.Counting.{count, among}
 use Rattle.rules.specs.File.{mostNumber}
-use Rattle.rules.specs.Vectors.{Bases, codeBit, changes, among}
+use Rattle.rules.specs.Vectors.{Bases, codeBit, changes, between}
 use Rattle.rules.specs.declared.Step.{Step}
 use Rattle.rules.specs.declared.Step.the-variants.{Base, Inserted}
 use Rattle.words.specs.Sets.{netWords, unlike, upTo}
 use Rattle.plan.specs.declared.steps.Plan.{Plan}
+use lib.ListN.{length}
+use Rattle.base.specs.Weave.{weave}
 
 -- the base vectors of a board whose N, p, G and SSOL are the plan's
 unfoldable pub basesFor : Plan → Bases
@@ -29,9 +32,9 @@ pub record Small (p : Plan) : Type 0 where
   pub coded : 1 ≤ p .wide
   pub narrow : p .wide ≤ mostPatterns
   pub turns : 1 ≤ p .groups
-  pub few : p .groups ≤ mostNumber
+  pub groups-bounded : p .groups ≤ mostNumber
   pub limited : 1 ≤ p .limit
-  pub low : p .limit ≤ mostNumber
+  pub limit-bounded : p .limit ≤ mostNumber
 
 -- the step stands in the plan's base vectors, and its number among the inserted ones is no larger than the number of nets
 abbrev pub Within : Plan → Step → Type 0
@@ -58,3 +61,7 @@ roundOf p = fullStart p (p .wide)
 -- the new value at the k lowest of the differing nets, the old elsewhere
 unfoldable pub mix : ℕ → (ℕ → Bool) → (ℕ → Bool) → ℕ → Bool
 mix k old new m = cond (among k (unlike old new) m) (new m) (old m)
+
+-- where base vector i stands in the plan
+unfoldable pub startOf : Plan → ℕ → ℕ
+startOf plan i = length (weave Base (between (basesFor plan)) i)

@@ -3,7 +3,7 @@ ghost use mathlib.Core.Path.{_≡_};
 ghost use mathlib.Core.Bool.{cond, _&&_};
 ghost use Prim.Native.Nat.{ℕ, _+_, _*_, _-_, _<_, _≤_};
 ghost use lib.Dec.{ltb};
-ghost use Rattle.rules.specs.Basics.{bit, ceil};
+ghost use Rattle.base.specs.Digits.{bit, ceil};
 ghost use Rattle.rules.specs.File.{mostNumber};
 ghost use Rattle.rules.specs.Vectors.{codeWidth, codeBit};
 ghost use Rattle.words.specs.Sets.{netWords, member, upTo};

@@ -4,32 +4,33 @@ use mathlib.Core.Path.{_≡_, refl, sym, _∙_, ap, ap₂, subst}
 use mathlib.Core.Logic.{⊎-elim}
 use mathlib.Core.Bool.{Bool, true, false, cond, xor}
 use mathlib.Core.List.{List}
-use native.Mathlib.Nat.{mul-le-mul-right, one-mul, mod-eq-of-lt, div-eq-of-lt, div-one, two-pow-succ, sub-zero}
+use native.Mathlib.Nat.{mod-eq-of-lt, div-eq-of-lt, div-one, two-pow-succ, sub-zero}
 use native.Mathlib.Numerals.{add-one}
 use native.Mathlib.Omega.{arith}
 use borrow.Author.Tests.{lt-ltb, le-ltb}
 use lib.Dec.{ltb, eqb}
 use lib.ListN.{length}
 use lib.Pow.{pow-mono, shr-shr}
-use Rattle.rules.specs.Basics.{bit, digit, rowBytes}
+use Rattle.base.specs.Digits.{bit}
+use Rattle.base.specs.Tests.{digit}
+use Rattle.base.proofs.BoolLaws.{alike, fails-not, order}
+use Rattle.base.proofs.TestLaws.{all-at}
+use Rattle.rules.specs.Rows.{rowBytes, rowBit}
 use Rattle.rules.specs.Refusals.{mostWidth}
 use Rattle.rules.specs.Vectors.{codeBit, stepsOf, vectorOf}
 use Rattle.rules.specs.declared.Step.{Step}
-use Rattle.rules.proofs.Tests.{alike, all-at, fails-not, order}
 use Rattle.words.specs.Sets.{upTo}
 use Rattle.plan.specs.declared.steps.Plan.{Plan}
-use Rattle.plan.specs.Plans.{basesFor, Small}
-use Rattle.plan.proofs.Stepping.{size, step-base}
-use Rattle.readings.specs.Readings.{seenAt, valueAt, offAt, readBelow, startOf, codeFrom, mostHalf, Mapped, Captured}
-use Rattle.readings.proofs.Places.{start-is, part-below}
-use Rattle.readings.proofs.Mapping.{mapped-same, mapped-then}
+use Rattle.plan.specs.Plans.{basesFor, Small, startOf}
+use Rattle.plan.proofs.StepLaws.{step-base}
+use Rattle.plan.proofs.RoundLaws.{round-below}
+use Rattle.readings.specs.Readings.{valueAt, offAt, readBelow, codeFrom, mostHalf, Mapped, Captured}
+use Rattle.readings.proofs.CapturePlaces.{part-below}
+use Rattle.readings.proofs.MappedLaws.{mapped-same, mapped-then}
 
 -- the first group's base vectors are among all
-pub first-below : (p : Plan) (j : ℕ) → Small p → j < p .wide → j < size p
-first-below p j s l = let m = mul-le-mul-right {m = 1} {n = p .groups} (p .wide) (s .turns) in omega (arith, one-mul (p .wide))
-
 pub first-in : (p : Plan) (j t : ℕ) → Small p → j < p .wide → t ≡ startOf p j → t < length (stepsOf (basesFor p))
-first-in p j t s l e = let q = part-below p j 0 t (first-below p j s l) e (omega arith) in omega arith
+first-in p j t s l e = let q = part-below p j 0 t (round-below p s j l) e (omega arith) in omega arith
 
 -- a code of j bits is below 2 ^ j
 digit-low : (a : Bool) → digit a ≤ 1
@@ -41,7 +42,7 @@ unfolding codeFrom
 code-below p bytes capture zero c = omega arith
 code-below p bytes capture (suc j) c =
     let r = code-below p bytes capture j c in
-    let d = digit-low (seenAt capture (startOf p j * bytes) c) in
+    let d = digit-low (rowBit capture (startOf p j * bytes) c) in
     omega (arith, two-pow-succ j)
 
 pub code-low : (p : Plan) (bytes : ℕ) (capture : List ℕ) (j c e : ℕ) → j ≤ mostWidth → e ≤ 0 → codeFrom p bytes capture j c e ≤ mostHalf
@@ -58,12 +59,12 @@ pub code-more :
     {before between after : List ℕ} {n : ℕ} (p : Plan) (bytes : ℕ) (capture : List ℕ) (j t : ℕ) →
     t ≡ startOf p j →
     Mapped (codeFrom p bytes capture j) before n between →
-    Mapped (λ c code. 2 * code + digit (seenAt capture (t * bytes) c)) between n after →
+    Mapped (λ c code. 2 * code + digit (rowBit capture (t * bytes) c)) between n after →
     Mapped (codeFrom p bytes capture (j + 1)) before n after
 unfolding codeFrom
 code-more p bytes capture j t a m r =
     rw (add-one j)
-    (mapped-same (λ c e. ap (λ (x : ℕ). 2 * codeFrom p bytes capture j c e + digit (seenAt capture (x * bytes) c)) a) (mapped-then m r))
+    (mapped-same (λ c e. ap (λ (x : ℕ). 2 * codeFrom p bytes capture j c e + digit (rowBit capture (x * bytes) c)) a) (mapped-then m r))
 
 pub code-all :
     {before after : List ℕ} {n : ℕ} (p : Plan) (bytes : ℕ) (capture : List ℕ) (j wide : ℕ) →
@@ -84,7 +85,7 @@ shifted w k =
     go x (suc zero) h = h .0
     go x (suc (suc r)) h = absurd (omega (arith, h .1))
 
-module _ (p : Plan) (bytes : ℕ) (capture : List ℕ) (n c : ℕ) (bits : (j : ℕ) → j < p .wide → seenAt capture (startOf p j * bytes) c ≡ codeBit (p .wide) j n) where
+module _ (p : Plan) (bytes : ℕ) (capture : List ℕ) (n c : ℕ) (bits : (j : ℕ) → j < p .wide → rowBit capture (startOf p j * bytes) c ≡ codeBit (p .wide) j n) where
   digits-from : (j : ℕ) → j ≤ p .wide → suc n < 2 ^ p .wide → codeFrom p bytes capture j c 0 ≡ suc n / 2 ^ (p .wide - j)
   unfolding codeFrom codeBit
   digits-from zero l h = rw sub-zero (sym (div-eq-of-lt h))
@@ -101,7 +102,7 @@ module _ (p : Plan) (bytes : ℕ) (capture : List ℕ) (n c : ℕ) (bits : (j : 
 pub first-value : (p : Plan) (j n : ℕ) → Small p → j < p .wide → n < p .nets → valueAt p (startOf p j) n ≡ codeBit (p .wide) j n
 unfolding valueAt vectorOf basesFor upTo
 first-value p j n s l m =
-    ap (λ (x : Step). vectorOf (basesFor p) x .value n) (sym (step-base p (startOf p j) j 0 (first-below p j s l) (let e = start-is p j in omega arith) refl))
+    ap (λ (x : Step). vectorOf (basesFor p) x .value n) (sym (step-base p (startOf p j) j 0 (round-below p s j l) (omega arith) refl))
     ∙ rw (lt-ltb n (p .nets) m, mod-eq-of-lt l)
 
 -- a cell that reads net n's own word reads its code
@@ -110,9 +111,9 @@ module _ (p : Plan) (capture : List ℕ) (cells bytes : ℕ) (k : Captured p cap
   unfolding readBelow offAt xor
   reads-code n c l w r = code-is p bytes capture n c bits (omega arith)
     where
-      bits : (j : ℕ) → j < p .wide → seenAt capture (startOf p j * bytes) c ≡ codeBit (p .wide) j n
+      bits : (j : ℕ) → j < p .wide → rowBit capture (startOf p j * bytes) c ≡ codeBit (p .wide) j n
       bits j m =
-          alike _ _ (fails-not _ (all-at _ _ r {i = startOf p j} (let q = part-below p j 0 (startOf p j) (first-below p j (k .small) m) refl (omega arith) in omega arith)))
+          alike _ _ (fails-not _ (all-at _ _ r {i = startOf p j} (let q = part-below p j 0 (startOf p j) (round-below p (k .small) j m) refl (omega arith) in omega arith)))
           ∙ first-value p j n (k .small) m l
 
 -- no entry is above the number of nets

@@ -8,16 +8,17 @@ use native.Mathlib.Numerals.{add-one}
 use native.Mathlib.Omega.{arith}
 use borrow.Author.Tests.{lt-ltb, le-ltb}
 use lib.ListN.{length, getD}
-use Rattle.rules.specs.Basics.{any}
+use Rattle.base.specs.Tests.{any}
 use Rattle.rules.specs.Refusals.{mostVectors}
 use Rattle.rules.specs.Vectors.{insertedAfter, stepsOf}
+use Rattle.rules.specs.Rows.{rowBit}
 use Rattle.words.specs.Sets.{nothing, unlike}
 use Rattle.plan.specs.declared.steps.Plan.{Plan}
-use Rattle.plan.specs.Plans.{basesFor, mix, Small}
-use Rattle.plan.proofs.Stepping.{size}
-use Rattle.readings.specs.Readings.{seenAt, valueAt, startOf, period, stray, strayAt, strayAfter, strayIn, otherLater, lost, Rowed, Left, Part}
-use Rattle.readings.proofs.Places.{starts-next, starts-end, part-below, part-value, row-inside}
-use Rattle.readings.proofs.Sifting.{left-then, left-same, left-all}
+use Rattle.plan.specs.Plans.{basesFor, mix, Small, startOf}
+use Rattle.plan.proofs.StepLaws.{size}
+use Rattle.readings.specs.Readings.{valueAt, period, stray, strayAt, strayAfter, strayIn, otherLater, lost, Rowed, Left, Part}
+use Rattle.readings.proofs.CapturePlaces.{starts-next, starts-end, part-below, part-value, row-inside}
+use Rattle.readings.proofs.LeftLaws.{left-then, left-same, left-all}
 use Rattle.readings.proofs.Repeating.{base-value, next-below, starts-least}
 
 -- one vector more
@@ -121,7 +122,7 @@ module _ (first bytes : ℕ) (capture table : List ℕ) where
   other-of : (u c : ℕ) (none : ℕ → Bool) → none ≡ nothing → strayAt capture ((first + u) * bytes) (u * bytes) none table c ≡ otherLater first bytes capture c u
   unfolding otherLater strayAt stray
   other-of u c none z =
-      rw z (anyhow (xor (seenAt capture ((first + u) * bytes) c) (seenAt capture (u * bytes) c)) (getD table c 0))
+      rw z (anyhow (xor (rowBit capture ((first + u) * bytes) c) (rowBit capture (u * bytes) c)) (getD table c 0))
     where
       anyhow : (a : Bool) (entry : ℕ) → (a && stray nothing entry) ≡ a
       anyhow true zero = refl

@@ -1,8 +1,8 @@
 -- The laws that the functions of this crate share.
-pub mod Mapping
-pub mod Places
+pub mod MappedLaws
+pub mod CapturePlaces
 pub mod Decoding
-pub mod Sifting
+pub mod LeftLaws
 pub mod Repeating
 pub mod Following
 pub mod Naming

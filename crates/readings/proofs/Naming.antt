@@ -9,16 +9,17 @@ use native.Mathlib.Omega.{arith}
 use borrow.Author.Tests.{eqb-true, eq-eqb, le-ltb}
 use lib.Dec.{ltb, eqb}
 use lib.ListN.{length, getD, replicate, length-replicate}
-use Rattle.rules.specs.Basics.{bit, ceil, rowBytes, word}
+use Rattle.base.specs.Digits.{bit, ceil, word}
+use Rattle.base.proofs.DigitLaws.{bit-word}
+use Rattle.base.proofs.BoolLaws.{same-test, order}
+use Rattle.rules.specs.Rows.{rowBytes, rowBit}
 use Rattle.rules.specs.File.{byteAt}
 use Rattle.rules.specs.Refusals.{mostBytes}
 use Rattle.rules.specs.Vectors.{stepsOf}
-use Rattle.rules.proofs.Digits.{bit-word}
-use Rattle.rules.proofs.Tests.{same-test, order}
 use Rattle.words.specs.Sets.{netWords}
 use Rattle.plan.specs.declared.steps.Plan.{Plan}
 use Rattle.plan.specs.Plans.{basesFor}
-use Rattle.readings.specs.Readings.{seenAt, readBelow, codeFrom, lost, Mapped, Entries, Captured, Left, Lent, Read}
+use Rattle.readings.specs.Readings.{readBelow, codeFrom, lost, Mapped, Entries, Captured, Left, Lent, Read}
 use Rattle.readings.proofs.Decoding.{own-low, reads-code}
 use Rattle.readings.proofs.Repeating.{left-reads, reads-left}
 
@@ -32,8 +33,8 @@ full-bit : (k : ℕ) → k < 8 → bit 255 k ≡ true
 unfolding word
 full-bit k l = bit-word 8 (λ i. true) k l
 
-pub all-left : (n c : ℕ) → c < 8 * n → seenAt (replicate n 255) 0 c ≡ true
-unfolding seenAt byteAt
+pub all-left : (n c : ℕ) → c < 8 * n → rowBit (replicate n 255) 0 c ≡ true
+unfolding rowBit byteAt
 all-left n c l =
     ap (λ (x : ℕ). bit x (c % 8)) (full-at n (0 + c / 8) (omega arith)) ∙ full-bit (c % 8) (omega arith)
 
@@ -48,15 +49,15 @@ pub own-lent :
 unfolding rowBytes ceil
 own-lent p capture before coded own cells bytes k z m o =
     record {
-      entries = record { long = (let a = z .long in omega (arith, k .bytes-are, m .long, o .long)); low = low };
-      room = (let f = k .few in omega (arith, k .bytes-are, length-replicate {A = ℕ} mostBytes 255));
+      entries = record { long = (let a = z .long in omega (arith, k .bytes-are, m .long, o .long)); entries-bounded = low };
+      room = (let f = k .cells-bounded in omega (arith, k .bytes-are, length-replicate {A = ℕ} mostBytes 255));
     }
   where
     low : (c : ℕ) → c < 8 * bytes → getD own c 0 ≤ 64 * netWords
     low c l =
         ⊎-elim
         (λ (q : c < cells). rw (o .done c q) (le-trans (own-low (p .nets) (getD coded c 0)) (k .small .nets)))
-        (λ (q : cells ≤ c). let a = z .low c (omega (arith, k .bytes-are)) in omega (arith, o .rest c q, m .rest c q))
+        (λ (q : cells ≤ c). let a = z .entries-bounded c (omega (arith, k .bytes-are)) in omega (arith, o .rest c q, m .rest c q))
         (order c cells)
 
 module _ (p : Plan) (capture : List ℕ) (cells bytes : ℕ) (k : Captured p capture cells bytes) (own : List ℕ) (c code : ℕ) where
@@ -96,21 +97,21 @@ pub all-read :
     Mapped (codeFrom p bytes capture (p .wide)) before cells coded →
     Mapped (λ c code. cond (ltb (p .nets) code) 0 code) coded cells own →
     Left (lost p bytes capture own) (replicate mostBytes 255) (8 * bytes) left →
-    Mapped (λ c entry. cond (seenAt left 0 c) entry 0) own cells after →
+    Mapped (λ c entry. cond (rowBit left 0 c) entry 0) own cells after →
     Read p capture before cells after
 unfolding rowBytes ceil
 all-read p capture before coded own left after cells bytes k z m o f r =
-    record { long = r .long ∙ o .long ∙ m .long; low = low; reads = reads; rest = λ c l. r .rest c l ∙ o .rest c l ∙ m .rest c l }
+    record { long = r .long ∙ o .long ∙ m .long; entries-bounded = low; reads = reads; rest = λ c l. r .rest c l ∙ o .rest c l ∙ m .rest c l }
   where
     blank : (c : ℕ) → c < cells → getD before c 0 ≡ 0
-    blank c l = let q = z .low c (omega arith) in omega arith
+    blank c l = let q = z .entries-bounded c (omega arith) in omega arith
 
     code-at : (c : ℕ) → c < cells → getD coded c 0 ≡ codeFrom p bytes capture (p .wide) c 0
     code-at c l = m .done c l ∙ ap (codeFrom p bytes capture (p .wide) c) (blank c l)
 
-    left-at : (c : ℕ) → c < cells → seenAt left 0 c ≡ not (lost p bytes capture own c)
+    left-at : (c : ℕ) → c < cells → rowBit left 0 c ≡ not (lost p bytes capture own c)
     left-at c l =
-        let few = k .few in
+        let few = k .cells-bounded in
         f .done c (omega (arith, k .bytes-are)) ∙ ap (λ (a : Bool). a && not (lost p bytes capture own c)) (all-left mostBytes c (omega arith))
 
     entry : (c : ℕ) → c < cells → getD after c 0 ≡ cond (not (lost p bytes capture own c)) (getD own c 0) 0

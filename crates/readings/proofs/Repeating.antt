@@ -11,18 +11,24 @@ use borrow.Author.Tests.{lt-ltb, ltb-true}
 use lib.Dec.{ltb, eqb}
 use lib.ListN.{length, getD}
 use lib.Pow.{shr-shr}
-use Rattle.rules.specs.Basics.{any, bit, digit, count}
-use Rattle.rules.specs.Vectors.{among, codeBit, insertedAfter, stepsOf, vectorOf}
+use Rattle.base.specs.Tests.{any, digit}
+use Rattle.base.specs.Digits.{bit}
+use Rattle.base.specs.Counting.{among}
+use Rattle.base.proofs.BoolLaws.{alike, decided, clashes, both, left, right, fails-not, fails-if, or-neither, below-suc, order}
+use Rattle.base.proofs.TestLaws.{any-none, none-any, all-at, all-from}
+use Rattle.base.proofs.CountingLaws.{among-more}
+use Rattle.rules.specs.Vectors.{codeBit, insertedAfter, stepsOf, vectorOf}
 use Rattle.rules.specs.declared.Step.{Step}
-use Rattle.rules.proofs.Tests.{alike, decided, clashes, both, left, right, fails-not, fails-if, or-neither, below-suc, any-none, none-any, all-at, all-from, order}
+use Rattle.rules.specs.Rows.{rowBit}
 use Rattle.words.specs.Sets.{unlike}
 use Rattle.plan.specs.declared.steps.Plan.{Plan}
-use Rattle.plan.specs.Plans.{basesFor, mix, Small}
-use Rattle.plan.proofs.Stepping.{size, start, start-zero, step-base, extra-none}
-use Rattle.plan.proofs.Repeating as plan
-use Rattle.readings.specs.Readings.{seenAt, valueAt, offAt, readBelow, startOf, codeFrom, period, stray, strayAt, strayAfter, strayIn, otherLater, lost, Captured}
-use Rattle.readings.proofs.Places.{start-is, starts-none, starts-next, starts-end, part-below, part-value}
-use Rattle.readings.proofs.Decoding.{first-below, first-value}
+use Rattle.plan.specs.Plans.{basesFor, mix, Small, startOf}
+use Rattle.plan.proofs.StepLaws.{size, start-zero, step-base, extra-none}
+use Rattle.plan.proofs.RoundLaws as plan
+use Rattle.plan.proofs.RoundLaws.{round-below}
+use Rattle.readings.specs.Readings.{valueAt, offAt, readBelow, codeFrom, period, stray, strayAt, strayAfter, strayIn, otherLater, lost, Captured}
+use Rattle.readings.proofs.CapturePlaces.{starts-none, starts-next, starts-end, part-below, part-value}
+use Rattle.readings.proofs.Decoding.{first-value}
 
 -- a part is its base vector and those inserted after it
 grows : (p : Plan) (i : ℕ) → startOf p (suc i) ≡ startOf p i + suc (insertedAfter (basesFor p) i)
@@ -38,11 +44,6 @@ starts-low p i (suc left) =
 pub starts-least : (p : Plan) (i k : ℕ) → i ≤ k → startOf p i ≤ startOf p k
 starts-least p i k l = let e : k ≡ i + (k - i) = omega arith in rw e (starts-low p i (k - i))
 
--- each vector before part k is one of an earlier part
-locate : (p : Plan) (k u : ℕ) → u < startOf p k → (i : ℕ) × (i < k) × (j : ℕ) × (j ≤ insertedAfter (basesFor p) i) × (u ≡ startOf p i + j)
-unfolding startOf
-locate p k u h = plan.locate p k u h
-
 -- vectors are inserted only where there is a next base vector
 pub next-below : (p : Plan) (i : ℕ) → 0 < insertedAfter (basesFor p) i → suc i < size p
 next-below p i z =
@@ -55,7 +56,7 @@ next-below p i z =
 pub base-value : (p : Plan) (i : ℕ) → i < p .groups * p .wide → valueAt p (startOf p i) ≡ basesFor p .value i
 unfolding valueAt vectorOf
 base-value p i l =
-    ap (λ (x : Step). vectorOf (basesFor p) x .value) (sym (step-base p (startOf p i) i 0 l (let e = start-is p i in omega arith) refl))
+    ap (λ (x : Step). vectorOf (basesFor p) x .value) (sym (step-base p (startOf p i) i 0 l (omega arith) refl))
 
 -- and the k-th vector of its part has those of the next at the lowest of the nets that change
 value-in : (p : Plan) (i k : ℕ) → i < size p → k ≤ insertedAfter (basesFor p) i → valueAt p (startOf p i + k) ≡ mix (k * p .limit) (basesFor p .value i) (basesFor p .value (suc i))
@@ -83,13 +84,13 @@ unfolding period
 start-repeats p i l =
     let first = plan.start-repeats p 0 (omega arith) in
     let z : p .wide + 0 ≡ p .wide = add-zero (p .wide) in
-    omega (arith, plan.start-repeats p i l, ap (start p) z, start-zero p, start-is p i, start-is p (p .wide), start-is p (p .wide + i))
+    omega (arith, plan.start-repeats p i l, ap (startOf p) z, start-zero p)
 
 -- from period on the values are those of the first group once more
 pub value-repeats : (p : Plan) (u : ℕ) → Small p → period p + u < length (stepsOf (basesFor p)) → valueAt p (period p + u) ≡ valueAt p u
 unfolding period
 value-repeats p u s l =
-    let f = locate p (size p) (period p + u) (omega (arith, starts-end p (size p) (startOf p (size p)) refl refl)) in
+    let f = plan.locate p (size p) (period p + u) (omega (arith, starts-end p (size p) (startOf p (size p)) refl refl)) in
     go (f .0) (f .1) (f .2) (f .3) (f .4) (later (f .0) (f .2) (f .3) (f .4))
   where
     later : (i j : ℕ) → j ≤ insertedAfter (basesFor p) i → period p + u ≡ startOf p i + j → p .wide ≤ i
@@ -131,17 +132,17 @@ bit-over x k a =
     let e : w / 2 ^ suc k ≡ w / 2 / 2 ^ k = sym (shr-shr w 1 k ∙ ap (λ (y : ℕ). w / 2 ^ y) (let f : 1 + k ≡ suc k = omega arith in f)) in
     ap (λ (y : ℕ). eqb (y % 2) 1) (e ∙ ap (λ (y : ℕ). y / 2 ^ k) (put-half x a))
 
-code-bits : (p : Plan) (bytes : ℕ) (capture : List ℕ) (c k j : ℕ) → j < k → bit (codeFrom p bytes capture k c 0) (k - suc j) ≡ seenAt capture (startOf p j * bytes) c
+code-bits : (p : Plan) (bytes : ℕ) (capture : List ℕ) (c k j : ℕ) → j < k → bit (codeFrom p bytes capture k c 0) (k - suc j) ≡ rowBit capture (startOf p j * bytes) c
 unfolding codeFrom
 code-bits p bytes capture c zero j l = absurd (omega arith)
 code-bits p bytes capture c (suc k) j l =
     ⊎-elim
-    (λ (q : j ≡ k). let z : suc k - suc j ≡ 0 = omega arith in rw (z, q) (bit-put (codeFrom p bytes capture k c 0) (seenAt capture (startOf p k * bytes) c)))
-    (λ (q : j < k). let z : suc k - suc j ≡ suc (k - suc j) = omega arith in rw z (bit-over (codeFrom p bytes capture k c 0) (k - suc j) (seenAt capture (startOf p k * bytes) c) ∙ code-bits p bytes capture c k j q))
+    (λ (q : j ≡ k). let z : suc k - suc j ≡ 0 = omega arith in rw (z, q) (bit-put (codeFrom p bytes capture k c 0) (rowBit capture (startOf p k * bytes) c)))
+    (λ (q : j < k). let z : suc k - suc j ≡ suc (k - suc j) = omega arith in rw z (bit-over (codeFrom p bytes capture k c 0) (k - suc j) (rowBit capture (startOf p k * bytes) c) ∙ code-bits p bytes capture c k j q))
     (below-suc l)
 
 -- a cell with net n's code reads the net's value in the first group's base vectors
-code-right : (p : Plan) (bytes : ℕ) (capture : List ℕ) (n c j : ℕ) → Small p → n < p .nets → codeFrom p bytes capture (p .wide) c 0 ≡ suc n → j < p .wide → seenAt capture (startOf p j * bytes) c ≡ valueAt p (startOf p j) n
+code-right : (p : Plan) (bytes : ℕ) (capture : List ℕ) (n c j : ℕ) → Small p → n < p .nets → codeFrom p bytes capture (p .wide) c 0 ≡ suc n → j < p .wide → rowBit capture (startOf p j * bytes) c ≡ valueAt p (startOf p j) n
 unfolding codeBit
 code-right p bytes capture n c j s m e l =
     sym (code-bits p bytes capture c (p .wide) j l)
@@ -195,13 +196,6 @@ module _ (r v a : ℕ → Bool) (old new : Bool) (extra : ℕ) (h : Once r v a o
           ∙ before 0 (omega arith)
           ∙ sym (before k (omega arith))
 
--- a net that is among the lowest is so among more of them
-among-more : (f : ℕ → Bool) (m k l : ℕ) → k ≤ l → among k f m ≡ true → among l f m ≡ true
-unfolding among
-among-more f m k l h e =
-    let c = ltb-true (count m f) k (right (f m) e) in
-    both (left (f m) _ e) (lt-ltb (count m f) l (omega arith))
-
 -- a reading that is right in the first group's base vectors, follows its net in between, and repeats
 record Kept (p : Plan) (n : ℕ) (r : ℕ → Bool) : Type 0 where
   small : Small p
@@ -241,7 +235,7 @@ module _ (p : Plan) (n : ℕ) (r : ℕ → Bool) (g : Kept p n r) where
           (record {
             values = λ j q. ap (λ (f : ℕ → Bool). f n) (value-in p i j (omega arith) q);
             ends = ap (λ (t : ℕ). valueAt p t n) (sym (grows p i)) ∙ ap (λ (f : ℕ → Bool). f n) (base-value p (suc i) m);
-            stays = λ x y q e. among-more (unlike old new) n (x * p .limit) (y * p .limit) (mul-le-mul-right (p .limit) q) e;
+            stays = λ x y q e. among-more (unlike old new) (mul-le-mul-right (p .limit) q) n e;
             follows = λ j q e. g .follows i j l z q e;
           })
           k h
@@ -259,7 +253,7 @@ module _ (p : Plan) (n : ℕ) (r : ℕ → Bool) (g : Kept p n r) where
   below-right (suc bound) t b l = go (λ u m. below-right bound u m) (order t (period p))
     where
       go : ((u : ℕ) → u < bound → u < length (stepsOf (basesFor p)) → r u ≡ valueAt p u n) → (t < period p) ⊎ (period p ≤ t) → r t ≡ valueAt p t n
-      go rest (inl q) = let f = locate p (p .wide) t q in rw (f .4) (part-right (f .0) (f .2) (f .1) (f .3))
+      go rest (inl q) = let f = plan.locate p (p .wide) t q in rw (f .4) (part-right (f .0) (f .2) (f .1) (f .3))
       go rest (inr q) =
           let o = period-some in
           let e : t ≡ period p + (t - period p) = omega arith in
@@ -294,21 +288,21 @@ and-rest a b e h = fails-if b (λ t. clashes (both e t) h)
 
 -- a cell whose entry is net n's strays where its reading changes and the net does not
 module _ (p : Plan) (bytes : ℕ) (capture table : List ℕ) (n c : ℕ) (entry : getD table c 0 ≡ suc n) where
-  stray-is : (t : ℕ) → strayAfter p bytes capture table c t ≡ (xor (seenAt capture (t * bytes) c) (seenAt capture ((t + 1) * bytes) c) && not (xor (valueAt p t n) (valueAt p (t + 1) n)))
+  stray-is : (t : ℕ) → strayAfter p bytes capture table c t ≡ (xor (rowBit capture (t * bytes) c) (rowBit capture ((t + 1) * bytes) c) && not (xor (valueAt p t n) (valueAt p (t + 1) n)))
   unfolding strayAfter strayAt stray
   stray-is t =
-      ap (λ (e : ℕ). xor (seenAt capture (t * bytes) c) (seenAt capture ((t + 1) * bytes) c) && stray (unlike (valueAt p t) (valueAt p (t + 1))) e) entry
+      ap (λ (e : ℕ). xor (rowBit capture (t * bytes) c) (rowBit capture ((t + 1) * bytes) c) && stray (unlike (valueAt p t) (valueAt p (t + 1))) e) entry
 
-  stray-not : (i k : ℕ) → strayIn p bytes capture table c i ≡ false → 0 < insertedAfter (basesFor p) i → k ≤ insertedAfter (basesFor p) i → valueAt p (startOf p i + k) n ≡ valueAt p (startOf p i + suc k) n → seenAt capture ((startOf p i + k) * bytes) c ≡ seenAt capture ((startOf p i + suc k) * bytes) c
+  stray-not : (i k : ℕ) → strayIn p bytes capture table c i ≡ false → 0 < insertedAfter (basesFor p) i → k ≤ insertedAfter (basesFor p) i → valueAt p (startOf p i + k) n ≡ valueAt p (startOf p i + suc k) n → rowBit capture ((startOf p i + k) * bytes) c ≡ rowBit capture ((startOf p i + suc k) * bytes) c
   unfolding strayIn
   stray-not i k h z l e =
       let t : startOf p i + k + 1 ≡ startOf p i + suc k = omega arith in
       let none = and-rest (ltb 0 (insertedAfter (basesFor p) i)) _ (lt-ltb 0 (insertedAfter (basesFor p) i) z) h in
       let one = any-none (1 + insertedAfter (basesFor p) i) (λ k. strayAfter p bytes capture table c (startOf p i + k)) none {i = k} (omega arith) in
       follow _ _ (valueAt p (startOf p i + k) n) (valueAt p (startOf p i + k + 1) n) (sym (stray-is (startOf p i + k)) ∙ one) (e ∙ ap (λ (x : ℕ). valueAt p x n) (sym t))
-      ∙ ap (λ (x : ℕ). seenAt capture (x * bytes) c) t
+      ∙ ap (λ (x : ℕ). rowBit capture (x * bytes) c) t
 
-  not-stray : (i : ℕ) → i < size p → ((t : ℕ) → t < length (stepsOf (basesFor p)) → seenAt capture (t * bytes) c ≡ valueAt p t n) → strayIn p bytes capture table c i ≡ false
+  not-stray : (i : ℕ) → i < size p → ((t : ℕ) → t < length (stepsOf (basesFor p)) → rowBit capture (t * bytes) c ≡ valueAt p t n) → strayIn p bytes capture table c i ≡ false
   unfolding strayIn
   not-stray i l h =
       fails-if (strayIn p bytes capture table c i) (λ e. clashes (right (ltb 0 (insertedAfter (basesFor p) i)) e) (none (ltb-true 0 (insertedAfter (basesFor p) i) (left (ltb 0 (insertedAfter (basesFor p) i)) _ e))))
@@ -329,9 +323,9 @@ left-reads p capture cells bytes k table n c m code entry l =
     clean : (any (p .wide) (strayIn p bytes capture table c) ≡ false) × (any (length (stepsOf (basesFor p)) - period p) (otherLater (period p) bytes capture c) ≡ false)
     clean = or-neither (any (p .wide) (strayIn p bytes capture table c)) l
 
-    right-at : (t : ℕ) → t < length (stepsOf (basesFor p)) → seenAt capture (t * bytes) c ≡ valueAt p t n
+    right-at : (t : ℕ) → t < length (stepsOf (basesFor p)) → rowBit capture (t * bytes) c ≡ valueAt p t n
     right-at =
-        all-right p n (λ t. seenAt capture (t * bytes) c)
+        all-right p n (λ t. rowBit capture (t * bytes) c)
         (record {
           small = k .small;
           first = λ i q. code-right p bytes capture n c i (k .small) m code q;
@@ -347,11 +341,11 @@ reads-left p capture cells bytes k table n c m entry h = neither stays repeats
     neither : {a b : Bool} → a ≡ false → b ≡ false → (a || b) ≡ false
     neither x y = rw (x, y)
 
-    right-at : (t : ℕ) → t < length (stepsOf (basesFor p)) → seenAt capture (t * bytes) c ≡ valueAt p t n
+    right-at : (t : ℕ) → t < length (stepsOf (basesFor p)) → rowBit capture (t * bytes) c ≡ valueAt p t n
     right-at t b = alike _ _ (fails-not _ (all-at (length (stepsOf (basesFor p))) (λ u. not (offAt p bytes capture n c u)) h b))
 
     stays : any (p .wide) (strayIn p bytes capture table c) ≡ false
-    stays = none-any _ _ (λ i q. not-stray p bytes capture table n c entry i (first-below p i (k .small) q) right-at)
+    stays = none-any _ _ (λ i q. not-stray p bytes capture table n c entry i (round-below p (k .small) i q) right-at)
 
     repeats : any (length (stepsOf (basesFor p)) - period p) (otherLater (period p) bytes capture c) ≡ false
     repeats =

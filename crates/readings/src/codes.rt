@@ -4,8 +4,9 @@ ghost use mathlib.Core.Bool.{cond};
 ghost use lib.Dec.{ltb};
 ghost use Prim.Native.Nat.{_≤_, _*_, _+_};
 ghost use lib.ListN.{length};
-ghost use Rattle.rules.specs.Basics.{digit};
-ghost use Rattle.readings.specs.Readings.{seenAt, codeFrom, mostHalf, Mapped, Scanned, Entries, Captured};
+ghost use Rattle.base.specs.Tests.{digit};
+ghost use Rattle.rules.specs.Rows.{rowBit};
+ghost use Rattle.readings.specs.Readings.{codeFrom, mostHalf, Mapped, Scanned, Entries, Captured};
 use crate::scan::seen;
 use plan::steps::Plan;
 use plan::steps::extra_after;
@@ -25,7 +26,7 @@ fn add_digit(read: bool, code: u16) -> u16
 fn add_row(capture: &[u8], at: usize, cells: usize, table: &mut [u16])
     requires { ⌜ Scanned (now capture) at cells ⌝ }
     requires { ⌜ Entries mostHalf cells (now table) ⌝ }
-    ensures { λ r. ⌜ Mapped (λ c code. 2 * code + digit (seenAt (now (capture .entry)) at c)) (now (table .entry)) cells (now (table .exit)) ⌝ }
+    ensures { λ r. ⌜ Mapped (λ c code. 2 * code + digit (rowBit (now (capture .entry)) at c)) (now (table .entry)) cells (now (table .exit)) ⌝ }
 {
     let mut c = 0;
     while c < cells {

@@ -3,9 +3,11 @@ ghost use mathlib.Core.Path.{_≡_};
 ghost use Prim.Native.Nat.{_<_, _≤_, _*_, _+_, _/_, _^_};
 ghost use mathlib.Core.Bool.{_&&_, not};
 ghost use lib.ListN.{length};
-ghost use Rattle.rules.specs.Basics.{bit, word, digit};
+ghost use Rattle.base.specs.Digits.{bit, word};
+ghost use Rattle.base.specs.Tests.{digit};
 ghost use Rattle.words.specs.Sets.{netWords, member};
-ghost use Rattle.readings.specs.Readings.{seenAt, stray, staying, strayAt, Left, Entries, Lent};
+ghost use Rattle.rules.specs.Rows.{rowBit};
+ghost use Rattle.readings.specs.Readings.{stray, staying, strayAt, Left, Entries, Lent};
 use rules::Net;
 use words::NetSet;
 
@@ -20,7 +22,7 @@ fn digit_at(byte: u8, i: usize) -> bool
 // What the cell at c read in the row from `at` on.
 pub(crate) fn seen(capture: &[u8], at: usize, c: usize) -> bool
     requires { ⌜ at + c / 8 < length (now capture) ⌝ }
-    ensures { λ r. ⌜ r ≡ seenAt (now (capture .entry)) at c ⌝ }
+    ensures { λ r. ⌜ r ≡ rowBit (now (capture .entry)) at c ⌝ }
 {
     digit_at(capture[at + c / 8], c % 8)
 }

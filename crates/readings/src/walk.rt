@@ -4,10 +4,11 @@ ghost use mathlib.Core.Path.{_≡_};
 ghost use mathlib.Core.Bool.{cond};
 ghost use Prim.Native.Nat.{_+_, _*_, _-_, _≤_, _<_};
 ghost use lib.ListN.{length};
-ghost use Rattle.rules.specs.Basics.{any, rowBytes};
+ghost use Rattle.base.specs.Tests.{any};
+ghost use Rattle.rules.specs.Rows.{rowBytes, rowBit};
 ghost use Rattle.rules.specs.Refusals.{mostVectors};
 ghost use Rattle.words.specs.Sets.{member, unlike};
-ghost use Rattle.readings.specs.Readings.{seenAt, period, strayAt, strayAfter, strayIn, otherLater, lost, Mapped, Entries, Left, Captured, Rowed, Later, Lent, Part, Read};
+ghost use Rattle.readings.specs.Readings.{period, strayAt, strayAfter, strayIn, otherLater, lost, Mapped, Entries, Left, Captured, Rowed, Later, Lent, Part, Read};
 use crate::codes::own_codes;
 use crate::codes::read_codes;
 use crate::scan::Rows;
@@ -170,7 +171,7 @@ fn entry_left(left: bool, entry: u16) -> u16
 fn clear(cells: usize, left: &[u8], table: &mut [u16])
     requires { ⌜ rowBytes cells ≤ length (now left) ⌝ }
     requires { ⌜ cells ≤ length (now table) ⌝ }
-    ensures { λ r. ⌜ Mapped (λ c entry. cond (seenAt (now (left .entry)) 0 c) entry 0) (now (table .entry)) cells (now (table .exit)) ⌝ }
+    ensures { λ r. ⌜ Mapped (λ c entry. cond (rowBit (now (left .entry)) 0 c) entry 0) (now (table .entry)) cells (now (table .exit)) ⌝ }
 {
     let mut c = 0;
     while c < cells {

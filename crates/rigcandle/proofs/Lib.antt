@@ -1,4 +1,4 @@
 -- The laws that the functions of this crate share.
-pub mod Answering
-pub mod Bounds
-pub mod Marking
+pub mod AnswerLaws
+pub mod AdmittedLaws
+pub mod CaptureMarks

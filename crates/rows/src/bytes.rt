@@ -1,11 +1,12 @@
 // A set of cells as the bytes of a row, and a row in a buffer from a place on.
 ghost use mathlib.Core.Path.{_≡_};
 ghost use Prim.Native.Nat.{_+_, _*_, _<_, _≤_};
-ghost use Rattle.rules.specs.Basics.{word, rowBytes, rowOf};
+ghost use Rattle.base.specs.Digits.{word};
+ghost use Rattle.rules.specs.Rows.{rowBytes, rowOf};
 ghost use Rattle.rules.specs.File.{mostNumber};
 ghost use lib.ListN.{length};
 ghost use Rattle.words.specs.Sets.{member};
-ghost use Rattle.rows.specs.Rows.{placed, Room, Cells};
+ghost use Rattle.rows.specs.Room.{placed, Room, Cells};
 use words::CellSet;
 
 // R = ceil(C / 8), the bytes of a row.

@@ -4,7 +4,7 @@ ghost use Rattle.rules.specs.File.{boardOf};
 ghost use Rattle.rules.specs.Answers.{over};
 ghost use Rattle.rules.specs.Groups.{groupRows};
 ghost use Rattle.select.specs.Highest.{Order};
-ghost use Rattle.rows.specs.Rows.{GroupsRoom};
+ghost use Rattle.rows.specs.Room.{GroupsRoom};
 use crate::bytes::row_bytes;
 use crate::bytes::write_row;
 use chains::TABLE;

@@ -12,7 +12,7 @@ ghost use Rattle.words.specs.Sets.{netWords, cellWords, member, plusIf, upTo};
 ghost use Rattle.cells.specs.Whole.{Whole};
 ghost use Rattle.select.specs.Turns.{Ready};
 ghost use Rattle.rows.specs.Bits.{bitOf, bitAt, outNet};
-ghost use Rattle.rows.specs.Rows.{VectorRoom};
+ghost use Rattle.rows.specs.Room.{VectorRoom};
 use crate::bytes::write_row;
 use cells::cell_at;
 use chains::TABLE;
@@ -26,7 +26,7 @@ use select::groups::group;
 use words::CELL_WORDS;
 use words::CellSet;
 use words::NetSet;
-use words::core;
+use words::loops;
 
 // "a control cell has its on value when on, else the other"
 fn control_bit(lit: bool, on: bool) -> bool
@@ -59,7 +59,7 @@ fn add_bit(file: &[u8], on: CellSet, nets: NetSet, c: usize, row: &mut [u64])
     ensures { λ r. ⌜ member (now (row .exit)) ≡ plusIf (bitAt (boardOf (now (file .entry))) (member (on .words)) (member (nets .words))) c (member (now (row .entry))) ⌝ }
 {
     if cell_bit(cell_at(file, c), Position(c as u16), on, nets) {
-        core::add(row, c);
+        loops::add(row, c);
     }
 }
 

@@ -7,12 +7,13 @@ use mathlib.Core.List.{List}
 use native.Mathlib.Omega.{arith}
 use borrow.Author.Tests.{ltb-false, leb-true}
 use lib.Dec.{leb}
-use Rattle.rules.specs.Basics.{any}
+use Rattle.base.specs.Tests.{any}
+use Rattle.base.proofs.BoolLaws.{left, right, passes-not}
+use Rattle.base.proofs.TestLaws.{any-none}
 use Rattle.rules.specs.File.{Board, boardOf, netOf, cellsOf, netsOf, limitOf}
 use Rattle.rules.specs.Drivers.{controlled, controlFor, isControl, alwaysOn, outputOf, drivers}
 use Rattle.rules.specs.Refusals.{judge, mostDrivers, mostCells, mostNets, mostLimit, within, outside, undriven, clash, clashing, crowded, shapeChecks, fileChecks, netChecks, earlyChecks}
 use Rattle.rules.specs.declared.Verdict.the-variants.{Accepted}
-use Rattle.rules.proofs.Tests.{left, right, passes-not, any-none}
 use Rattle.rules.proofs.DriverLaws.{kept-control, kept-net}
 use Rattle.rules.proofs.Verdicts.{all-pass}
 
@@ -29,7 +30,7 @@ pub record Early (b : Board) : Type 0 where
   -- no two outputs of a net clash
   pub no-clash : (n c d : ℕ) → n < b .nets → c < b .size → d < b .size → clash b n c d ≡ false
   -- and no net is crowded
-  pub few : (n : ℕ) → n < b .nets → drivers b n ≤ mostDrivers
+  pub drivers-bounded : (n : ℕ) → n < b .nets → drivers b n ≤ mostDrivers
 
 -- "within its limits" from check 4
 limit-within : (most n : ℕ) → within most n ≡ true → (0 < n) × (n ≤ most)
@@ -43,4 +44,4 @@ early file e =
     let h = all-pass (earlyChecks file) e in
     let limits = passes-not _ (h .1 .1 .1 .0 0 (omega arith)) in
     let whole = h .1 .1 .1 .1 .1 .0 in
-    record { has-limit = limit-within mostLimit (limitOf file) (right (within mostCells (cellsOf file) && within mostNets (netsOf file)) limits) .0; own-control = kept-control file whole; own-net = kept-net file whole; driven = λ n l. passes-not _ (h .1 .1 .1 .1 .1 .1 .0 n l); no-clash = λ n c d l m k. any-none _ _ (any-none _ _ (h .1 .1 .1 .1 .1 .1 .1 .0 n l) m) k; few = λ n l. ltb-false _ _ (h .1 .1 .1 .1 .1 .1 .1 .1 .0 n l) }
+    record { has-limit = limit-within mostLimit (limitOf file) (right (within mostCells (cellsOf file) && within mostNets (netsOf file)) limits) .0; own-control = kept-control file whole; own-net = kept-net file whole; driven = λ n l. passes-not _ (h .1 .1 .1 .1 .1 .1 .0 n l); no-clash = λ n c d l m k. any-none _ _ (any-none _ _ (h .1 .1 .1 .1 .1 .1 .1 .0 n l) m) k; drivers-bounded = λ n l. ltb-false _ _ (h .1 .1 .1 .1 .1 .1 .1 .1 .0 n l) }

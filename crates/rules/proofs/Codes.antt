@@ -1,21 +1,18 @@
 -- The theorem about codes. The idea: a code below 2 ^ p is the word of its p digits, so one that is not a given word has a digit of its own.
-use Prim.Native.Nat.{ℕ, zero, suc, _+_, _-_, _^_, _≤_, _<_}
-use mathlib.Core.Path.{_≡_, refl, sym, _∙_}
+use Prim.Native.Nat.{ℕ, _+_, _-_, _^_, _≤_, _<_}
+use mathlib.Core.Path.{_≡_, sym, _∙_}
 use mathlib.Core.Logic.{_⊎_, inl, inr, ⊎-elim}
-use mathlib.Core.Bool.{Bool, true, false, Bool·beq, true≢false, false≢true}
-use native.Mathlib.Nat.{two-pow-succ, eq-or-lt-of-le}
+use mathlib.Core.Bool.{Bool, true, false, Bool·beq}
+use native.Mathlib.Nat.{eq-or-lt-of-le}
 use native.Mathlib.Omega.{arith}
 use borrow.Author.Tests.{leb-true, leb-false}
 use lib.Dec.{leb}
-use Rattle.rules.specs.Basics.{all, bit, word}
+use Rattle.base.specs.Tests.{all}
+use Rattle.base.specs.Digits.{bit, word}
+use Rattle.base.proofs.BoolLaws.{decided, passes-if, fails-if, beq-true, beq-false}
+use Rattle.base.proofs.TestLaws.{all-at, all-fails, Lowest, least-lowest}
+use Rattle.base.proofs.DigitLaws.{word-same, word-bits, word-none, word-full, below-pow}
 use Rattle.rules.specs.Vectors.{codeWidth, codeBit}
-use Rattle.rules.proofs.Tests.{decided, passes-if, fails-if, all-at, all-fails, Lowest, least-lowest}
-use Rattle.rules.proofs.Digits.{word-same, word-bits, word-none, word-full}
-
--- n is below 2 ^ n, so the search for a width finds one
-below-pow : (n : ℕ) → n < 2 ^ n
-below-pow zero = omega arith
-below-pow (suc n) = omega (arith, below-pow n, two-pow-succ n)
 
 -- The width p is the least number with 2 ^ p at least N + 2.
 pub width-least : (nets : ℕ) → (nets + 2 ≤ 2 ^ codeWidth nets) × ((q : ℕ) → q < codeWidth nets → 2 ^ q < nets + 2)
@@ -31,18 +28,6 @@ width-least nets = (enough, λ q k. leb-false (nets + 2) (2 ^ q) (found .lower q
         (λ (e : codeWidth nets ≡ nets + 2). rw e (omega (arith, below-pow (nets + 2))))
         (λ (k : codeWidth nets < nets + 2). leb-true (nets + 2) (2 ^ codeWidth nets) (found .passes k))
         (eq-or-lt-of-le (found .under))
-
-beq-true : (a b : Bool) → Bool·beq a b ≡ true → a ≡ b
-beq-true true true h = refl
-beq-true true false h = sym h
-beq-true false true h = h
-beq-true false false h = refl
-
-beq-false : (a b : Bool) → Bool·beq a b ≡ false → a ≡ b → ⊥
-beq-false true true h e = true≢false h
-beq-false true false h e = true≢false e
-beq-false false true h e = false≢true e
-beq-false false false h e = true≢false h
 
 -- a code that is not the word of f has a pattern whose bit is not f's
 code-not : (p i : ℕ) (f : ℕ → Bool) → i + 2 ≤ 2 ^ p → (i + 1 ≡ word p f → ⊥) → (k : ℕ) × (k < p) × (codeBit p k i ≡ f (p - (k + 1)) → ⊥)

@@ -7,14 +7,18 @@ use mathlib.Core.Logic.{_⊎_, inl, inr, ⊎-elim}
 use mathlib.Core.Bool.{Bool, true, false, not, _&&_, _||_}
 use mathlib.Core.List.{List}
 use native.Mathlib.Omega.{arith}
-use Rattle.rules.specs.Basics.{count, has, all}
+use Rattle.base.specs.Counting.{count}
+use Rattle.base.specs.Lists.{has}
+use Rattle.base.specs.Tests.{all}
+use Rattle.base.proofs.BoolLaws.{decided, left, right, both, or-cases, or-neither, passes-not, fails-not, clashes, fails-if}
+use Rattle.base.proofs.TestLaws.{all-at, all-fails}
+use Rattle.base.proofs.CountingLaws.{count-strictly}
 use Rattle.rules.specs.File.{Board}
 use Rattle.rules.specs.Drivers.{isControl, drives, controls, meets}
 use Rattle.rules.specs.Groups.{marked}
-use Rattle.rules.proofs.Tests.{decided, left, right, both, or-cases, or-neither, passes-not, fails-not, clashes, fails-if, all-at, all-fails, count-strictly}
-use Rattle.rules.proofs.Driving.{Affects, Disjoint, Included, meets-net}
+use Rattle.rules.proofs.NetSetLaws.{Affects, Disjoint, Included, meets-net}
 use Rattle.rules.proofs.Requirement.{ControlCell, Requirement}
-use Rattle.rules.proofs.Passes.{marked-by}
+use Rattle.rules.proofs.PassLaws.{marked-by}
 
 -- k is an eligible control cell of net n
 abbrev pub available : Board → (ℕ → Bool) → ℕ → ℕ → Bool

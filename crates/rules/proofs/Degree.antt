@@ -3,12 +3,13 @@
 use Prim.Native.Nat.{ℕ, _<_}
 use mathlib.Core.Path.{_≡_, sym, _∙_}
 use mathlib.Core.Bool.{true}
+use Rattle.base.proofs.BoolLaws.{right, both, fails-if}
+use Rattle.base.proofs.CountingLaws.{count-none}
+use Rattle.base.proofs.OneToOne.{count-onto}
 use Rattle.rules.specs.File.{Board}
 use Rattle.rules.specs.Drivers.{controlFor, isControl, alwaysOn, onNet, outputOf, driverOf, drivers, controls, degree}
-use Rattle.rules.proofs.Tests.{right, both, fails-if, count-none}
-use Rattle.rules.proofs.Counting.{count-onto}
 use Rattle.rules.proofs.Acceptance.{Early}
-use Rattle.rules.proofs.Driving.{kinds-differ, driver-output, drives-driver, driver-drives, always-alone, driver-alone}
+use Rattle.rules.proofs.NetSetLaws.{kinds-differ, driver-output, drives-driver, driver-drives, always-alone, driver-alone}
 
 pub degree-drivers : (b : Board) → Early b → (n : ℕ) → n < b .nets → degree b n ≡ drivers b n
 unfolding degree drivers controls driverOf

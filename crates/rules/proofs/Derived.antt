@@ -1,6 +1,8 @@
 -- The limits that follow from others: a row of the most cells, and the code of the most nets. A larger limit that these do not fit fails here.
 use mathlib.Core.Path.{_≡_, refl}
-use Rattle.rules.specs.Basics.{ceil, rowBytes, seek, least}
+use Rattle.base.specs.Digits.{ceil}
+use Rattle.base.specs.Tests.{seek, least}
+use Rattle.rules.specs.Rows.{rowBytes}
 use Rattle.rules.specs.Refusals.{mostCells, mostNets, mostBytes, mostWidth}
 use Rattle.rules.specs.Vectors.{codeWidth}
 

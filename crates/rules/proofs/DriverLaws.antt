@@ -8,6 +8,7 @@ use mathlib.Core.List.{List}
 use native.Mathlib.Omega.{arith}
 use borrow.Author.Tests.{eqb-true, eq-eqb, ltb-true}
 use lib.Dec.{eqb, ltb}
+use Rattle.base.proofs.BoolLaws.{left, right, or-left, or-cases}
 use Rattle.rules.specs.File.{Board, boardOf, none, kindOf, controlOf, netOf, kindAt, controlAt, cellsOf, netsOf, ofKind2, brokenAt}
 use Rattle.rules.specs.Drivers.{driverIn, driverAt, isDriver, controlIn, controlled, controlFor, isControl, alwaysOn, onNet, driverOf}
 use Rattle.rules.specs.Refusals.{judge, fileChecks}
@@ -18,8 +19,7 @@ use Rattle.rules.specs.declared.Driver.the-variants.{Of, Nothing}
 use Rattle.rules.specs.declared.Position.{Position}
 use Rattle.rules.specs.declared.Net.{Net}
 use Rattle.rules.specs.declared.Verdict.the-variants.{Accepted}
-use Rattle.rules.proofs.Tests.{left, right, or-left, or-cases}
-use Rattle.rules.proofs.Records.{SaysAt, record-says}
+use Rattle.rules.proofs.RecordLaws.{SaysAt, record-says}
 use Rattle.rules.proofs.Shape.{whole-records}
 
 -- what a cell drives, by its columns

@@ -5,14 +5,19 @@ use mathlib.Core.Bool.{Bool, true, false, cond, xor, _&&_}
 use mathlib.Core.List.{List, [], _∷_, _++_, map}
 use lib.Dec.{eqb}
 use lib.ListN.{length, getD, replicate}
-use Rattle.rules.specs.Basics.{any, all, count, largest, seek, least, table, has, ceil, bit, word, rowBytes, rowByte, rowOf}
+use Rattle.base.specs.Tests.{any, all, largest, seek, least}
+use Rattle.base.specs.Counting.{count, among}
+use Rattle.base.specs.Lists.{table, has}
+use Rattle.base.specs.Digits.{ceil, bit, word}
+use Rattle.base.specs.Weave.{weave}
+use Rattle.rules.specs.Rows.{rowBytes, rowByte, rowOf, rowBit}
 use Rattle.rules.specs.File.{Board, byteAt, numberAt, added, sumsFrom, sumsOf, blocksIn, blockAt, sumsRight, zeros, headRight, headerRight, cellsOf, netsOf, limitOf, recordsIn, cellBlockRight, recordAt, kindAt, onAt, controlAt, netAt, ofKind2, tableOf, recordOf, brokenAt, kindOf, onValueOf, controlOf, netOf, boardOf, summed, none}
 use Rattle.rules.specs.declared.Sums.{Sums}
 use Rattle.rules.specs.declared.Cell.{Cell}
 use Rattle.rules.specs.declared.Cell.the-variants.{Internal, Control, ThreeState}
 use Rattle.rules.specs.Drivers.{driverIn, driverAt, isDriver, controlIn, controlled, controlFor, isControl, alwaysOn, isInput, onNet, outputOf, driverOf, drives, drivers, controls, degree, meets, inside, crosses, groupsOf}
 use Rattle.rules.specs.Groups.{marked, turn, pass, firstPass, secondPass, selected, earlier, group, onIn}
-use Rattle.rules.specs.Vectors.{codeWidth, codeBit, widthOf, patternOf, basesOf, differs, changes, insertedAfter, between, weave, stepsOf, among, vectorOf, planOf, totalOf, vectorAt, cellBit, vectorRow}
+use Rattle.rules.specs.Vectors.{codeWidth, codeBit, widthOf, patternOf, basesOf, differs, changes, insertedAfter, between, stepsOf, vectorOf, planOf, totalOf, vectorAt, cellBit, vectorRow}
 use Rattle.rules.specs.Marks.{readAt, ownAt, differsAt, inputOf, unseen, failed, readTwice, rowsOf, firstGiven, markOf, byteOf, marksOf}
 use Rattle.rules.specs.Refusals.{judge, numberOf, placeOf, wrongLength, within, outside, blocksFor, blockWrong, undriven, clash, clashing, crowded, crossed, unequal, shapeChecks, fileChecks, netChecks, controlChecks, earlyChecks, boardChecks}
 
@@ -123,5 +128,5 @@ right [] = true
 right (f ∷ fs) = same (f .said) (f .computed) && right fs
 
 claim : right figures ≡ true
-unfolding right same listing lopsided boardL figures figure capture digits verdictOn zeroSums members boardE fileE block record4 two any all count largest seek least table has ceil bit word rowBytes rowByte rowOf byteAt numberAt added sumsFrom sumsOf blocksIn blockAt sumsRight zeros headRight headerRight cellsOf netsOf limitOf recordsIn cellBlockRight recordAt kindAt onAt controlAt netAt ofKind2 tableOf recordOf brokenAt kindOf onValueOf controlOf netOf boardOf driverIn driverAt isDriver controlIn controlled controlFor isControl alwaysOn isInput onNet outputOf driverOf drives drivers controls degree meets inside crosses groupsOf marked turn pass firstPass secondPass selected earlier group onIn codeWidth codeBit widthOf patternOf basesOf differs changes insertedAfter between weave stepsOf among vectorOf planOf totalOf vectorAt cellBit vectorRow readAt ownAt differsAt inputOf unseen failed readTwice rowsOf firstGiven markOf byteOf marksOf judge numberOf placeOf wrongLength within outside blocksFor blockWrong undriven clash clashing crowded crossed unequal shapeChecks fileChecks netChecks controlChecks earlyChecks boardChecks xor
+unfolding right same listing lopsided boardL figures figure capture digits verdictOn zeroSums members boardE fileE block record4 two any all count largest seek least table has ceil bit word rowBytes rowByte rowOf byteAt numberAt added sumsFrom sumsOf blocksIn blockAt sumsRight zeros headRight headerRight cellsOf netsOf limitOf recordsIn cellBlockRight recordAt kindAt onAt controlAt netAt ofKind2 tableOf recordOf brokenAt kindOf onValueOf controlOf netOf boardOf driverIn driverAt isDriver controlIn controlled controlFor isControl alwaysOn isInput onNet outputOf driverOf drives drivers controls degree meets inside crosses groupsOf marked turn pass firstPass secondPass selected earlier group onIn codeWidth codeBit widthOf patternOf basesOf differs changes insertedAfter between weave stepsOf among vectorOf planOf totalOf vectorAt cellBit vectorRow readAt rowBit ownAt differsAt inputOf unseen failed readTwice rowsOf firstGiven markOf byteOf marksOf judge numberOf placeOf wrongLength within outside blocksFor blockWrong undriven clash clashing crowded crossed unequal shapeChecks fileChecks netChecks controlChecks earlyChecks boardChecks xor
 claim = refl

@@ -1,57 +1,25 @@
 -- Two neighbouring vectors of a plan differ in at most SSOL nets.
 -- The idea: between base vector i and the next the values go by stages. Stage j has the new value at the j × SSOL lowest differing nets and the old elsewhere: stage 0 is base i, stage t the t-th inserted vector, and the stage after the last inserted one is base i + 1, for by then no differing net is left. From one stage to the next only nets change that are among the lowest (j + 1) × SSOL and not among the lowest j × SSOL, and of those there are at most SSOL.
-use Prim.Native.Nat.{ℕ, zero, suc, _+_, _*_, _-_, _≤_, _<_, min}
+use Prim.Native.Nat.{ℕ, zero, suc, _+_, _*_, _-_, _≤_, _<_}
 use mathlib.Core.Path.{_≡_, refl, _∙_, ap, fun-ext}
-use mathlib.Core.Bool.{Bool, true, false, cond, xor, _&&_, false≢true}
+use mathlib.Core.Bool.{Bool, true, false, cond, xor, false≢true}
 use mathlib.Core.List.{_∷_}
 use native.Mathlib.Nat.{suc-mul, zero-mul, mul-le-mul-right}
 use native.Mathlib.Numerals.{add-one}
 use native.Mathlib.Omega.{arith}
-use borrow.Author.Tests.{lt-ltb, ltb-true, ltb-false}
-use lib.Dec.{ltb}
+use borrow.Author.Tests.{lt-ltb}
 use lib.ListN.{length, getD}
-use Rattle.rules.specs.Basics.{digit, count, ceil}
+use Rattle.base.specs.Tests.{digit}
+use Rattle.base.specs.Counting.{count, among}
+use Rattle.base.specs.Digits.{ceil}
+use Rattle.base.proofs.CountingLaws.{count-same, count-among, among-all, among-more, among-none, count-apart}
+use Rattle.base.proofs.ListLaws.{length-table, table-at}
+use Rattle.base.proofs.DigitLaws.{ceil-covers}
+use Rattle.base.proofs.WeaveLaws.{weave-neighbours}
 use Rattle.rules.specs.File.{Board}
-use Rattle.rules.specs.Vectors.{Bases, basesOf, differs, changes, insertedAfter, between, stepsOf, among, vectorOf, planOf, totalOf, vectorAt}
+use Rattle.rules.specs.Vectors.{Bases, basesOf, differs, changes, insertedAfter, between, stepsOf, vectorOf, planOf, totalOf, vectorAt}
 use Rattle.rules.specs.declared.Step.{Step}
 use Rattle.rules.specs.declared.Step.the-variants.{Base, Inserted}
-use Rattle.rules.proofs.Tests.{both, left, right, fails-if, passes-if, same-test, count-same, count-strictly}
-use Rattle.rules.proofs.Digits.{length-table, table-at, ceil-covers}
-use Rattle.rules.proofs.Weaving.{weave-neighbours}
-
--- one more number, which is a member or not (a), with room left or not (c)
-one-more : (x y k : ℕ) (a c : Bool) → ltb x k ≡ c → y ≡ min x k → y + digit (a && c) ≡ min (x + digit a) k
-one-more x y k true true e h = omega (arith, ltb-true x k e)
-one-more x y k true false e h = omega (arith, ltb-false x k e)
-one-more x y k false c e h = omega arith
-
--- the k lowest members number k, or all where there are fewer
-pub count-among : (n k : ℕ) (f : ℕ → Bool) → count n (among k f) ≡ min (count n f) k
-unfolding count among
-count-among zero k f = omega arith
-count-among (suc n) k f = one-more (count n f) _ k (f n) _ refl (count-among n k f)
-
--- the k lowest members are all, where k is no less than their number
-pub among-all : (n k : ℕ) (f : ℕ → Bool) → count n f ≤ k → {m : ℕ} → m < n → among k f m ≡ f m
-unfolding among
-among-all n k f h {m} l =
-    same-test (among k f m) (f m) (left (f m) _) (λ e. passes-if (among k f m) (λ z. let c = count-strictly n (among k f) f (λ i _. left (f i) _) l z e in omega (arith, count-among n k f)))
-
--- the lowest stay among more
-pub among-more : (f : ℕ → Bool) {j k : ℕ} → j ≤ k → (m : ℕ) → among j f m ≡ true → among k f m ≡ true
-unfolding among
-among-more f {j} {k} h m e = both (left (f m) _ e) (lt-ltb (count m f) k (omega (arith, ltb-true (count m f) j (right (f m) e))))
-
--- none are among the 0 lowest
-pub among-none : (f : ℕ → Bool) (m : ℕ) → among 0 f m ≡ false
-unfolding among
-among-none f m = fails-if (among 0 f m) (λ e. omega (arith, ltb-true (count m f) 0 (right (f m) e)))
-
--- two tests that never pass together, and pass only where a third does, pass together no more often than it
-pub count-apart : (n : ℕ) (p q r : ℕ → Bool) → ((i : ℕ) → i < n → digit (p i) + digit (q i) ≤ digit (r i)) → count n p + count n q ≤ count n r
-unfolding count
-count-apart zero p q r h = omega arith
-count-apart (suc n) p q r h = omega (arith, count-apart n p q r (λ i l. h i (omega arith)), h n (omega arith))
 
 -- net m's value at stage j after base vector i
 stageValue : Bases → ℕ → ℕ → ℕ → Bool

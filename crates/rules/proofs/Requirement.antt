@@ -10,16 +10,17 @@ use native.Mathlib.Nat.{eq-or-lt-of-le}
 use native.Mathlib.Omega.{arith}
 use borrow.Author.Tests.{eqb-true, eq-eqb, lt-ltb}
 use lib.Dec.{eqb, ltb}
+use Rattle.base.proofs.BoolLaws.{decided, order, left, right, both, not-fails, fails-not, clashes, fails-if, passes-if}
+use Rattle.base.proofs.TestLaws.{any-member, any-none, none-any}
 use Rattle.rules.specs.File.{Board, boardOf}
 use Rattle.rules.specs.Drivers.{isControl, drives, drivers, outputs, meets, inside, crosses}
 use Rattle.rules.specs.Refusals.{judge, numberOf, crossed, unequal, controlChecks, earlyChecks, boardChecks}
 use Rattle.rules.specs.declared.Refusal.{Refusal}
 use Rattle.rules.specs.declared.Verdict.{Verdict}
 use Rattle.rules.specs.declared.Verdict.the-variants.{Accepted, Refused}
-use Rattle.rules.proofs.Tests.{decided, order, left, right, both, not-fails, fails-not, clashes, fails-if, passes-if, any-member, any-none, none-any}
 use Rattle.rules.proofs.Verdicts.{AllPass, First, here, later, all-pass, accepted, given-first, judge-append}
 use Rattle.rules.proofs.Acceptance.{Early, early}
-use Rattle.rules.proofs.Driving.{Affects, Disjoint, Included, meets-net, apart, included, not-included, outputs-drivers}
+use Rattle.rules.proofs.NetSetLaws.{Affects, Disjoint, Included, meets-net, apart, included, not-included, outputs-drivers}
 
 pub record ControlCell (b : Board) (k : ℕ) : Type 0 where
   pub on-board : k < b .size
@@ -33,9 +34,9 @@ pub record Requirement (b : Board) : Type 0 where
   pub equal : (k n m : ℕ) → ControlCell b k → n < b .nets → m < b .nets → Affects b k n → Affects b k m → outputs b n ≡ outputs b m
 
 -- two control cells that do not cross lie as the source asks
-lie : (b : Board) (i j : ℕ) → ControlCell b i → ControlCell b j → crosses b i j ≡ false → Disjoint b i j ⊎ (Included b i j ⊎ Included b j i)
+apart-or-nested : (b : Board) (i j : ℕ) → ControlCell b i → ControlCell b j → crosses b i j ≡ false → Disjoint b i j ⊎ (Included b i j ⊎ Included b j i)
 unfolding crosses
-lie b i j x y h = go (decided (meets b i j)) (decided (inside b i j)) (decided (inside b j i))
+apart-or-nested b i j x y h = go (decided (meets b i j)) (decided (inside b i j)) (decided (inside b j i))
   where
     go : (meets b i j ≡ true) ⊎ (meets b i j ≡ false) → (inside b i j ≡ true) ⊎ (inside b i j ≡ false) → (inside b j i ≡ true) ⊎ (inside b j i ≡ false) → Disjoint b i j ⊎ (Included b i j ⊎ Included b j i)
     go (inr m) p q = inl (apart b i j m)
@@ -55,8 +56,8 @@ holds b e h = record { nested = nested; equal = equal }
     nested : (i j : ℕ) → ControlCell b i → ControlCell b j → Disjoint b i j ⊎ (Included b i j ⊎ Included b j i)
     nested i j x y =
         ⊎-elim
-        (λ (l : i < j). lie b i j x y (below i j l (x .on-board) (y .on-board)))
-        (λ (l : j ≤ i). ⊎-elim (λ (q : j ≡ i). inr (inl (λ n m a. rw q a))) (λ (q : j < i). turned (lie b j i y x (below j i q (y .on-board) (x .on-board)))) (eq-or-lt-of-le l))
+        (λ (l : i < j). apart-or-nested b i j x y (below i j l (x .on-board) (y .on-board)))
+        (λ (l : j ≤ i). ⊎-elim (λ (q : j ≡ i). inr (inl (λ n m a. rw q a))) (λ (q : j < i). turned (apart-or-nested b j i y x (below j i q (y .on-board) (x .on-board)))) (eq-or-lt-of-le l))
         (order i j)
       where
         turned : Disjoint b j i ⊎ (Included b j i ⊎ Included b i j) → Disjoint b i j ⊎ (Included b i j ⊎ Included b j i)

@@ -9,20 +9,23 @@ use mathlib.Core.List.{List, []}
 use native.Mathlib.Omega.{arith}
 use borrow.Author.Tests.{eqb-true, eq-eqb, ne-eqb, le-leb, ltb-true, lt-ltb}
 use lib.Dec.{leb, ltb}
-use Rattle.rules.specs.Basics.{count, has}
+use Rattle.base.specs.Counting.{count}
+use Rattle.base.specs.Lists.{has}
+use Rattle.base.proofs.BoolLaws.{order, left, right, both, or-left, or-right, or-cases, not-fails, fails-not, clashes, same-test}
+use Rattle.base.proofs.CountingLaws.{count-same, count-none, count-member, count-split}
+use Rattle.base.proofs.OneToOne.{without, count-without}
+use Rattle.base.proofs.ListLaws.{has-append}
 use Rattle.rules.specs.File.{Board, boardOf, netOf}
 use Rattle.rules.specs.Drivers.{controlled, controlFor, isControl, onNet, driverOf, drives, controls, degree}
 use Rattle.rules.specs.Groups.{marked, firstPass, secondPass, selected, earlier, group}
 use Rattle.rules.specs.Refusals.{judge, earlyChecks, controlChecks, boardChecks}
 use Rattle.rules.specs.declared.Verdict.the-variants.{Accepted}
-use Rattle.rules.proofs.Tests.{order, left, right, both, or-left, or-right, or-cases, not-fails, fails-not, clashes, same-test, count-same, count-none, count-member, count-split}
-use Rattle.rules.proofs.Counting.{without, count-without}
 use Rattle.rules.proofs.Verdicts.{all-pass, append-pass, accepted}
 use Rattle.rules.proofs.Acceptance.{Early, early}
-use Rattle.rules.proofs.Driving.{Affects, meets-at, drives-driver, driver-own, outputs-drivers}
+use Rattle.rules.proofs.NetSetLaws.{Affects, meets-at, drives-driver, driver-own, outputs-drivers}
 use Rattle.rules.proofs.Requirement.{ControlCell, Requirement, accepted-exactly}
 use Rattle.rules.proofs.Degree.{degree-drivers}
-use Rattle.rules.proofs.Passes.{has-append, Apart, open-at, pass-keeps, pass-members, pass-apart, pass-marks}
+use Rattle.rules.proofs.PassLaws.{Apart, open-at, pass-keeps, pass-members, pass-apart, pass-marks}
 use Rattle.rules.proofs.Cover.{available, covers}
 
 -- a sound board: one that checks 1 to 9 leave and that meets the requirement

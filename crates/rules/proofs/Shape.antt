@@ -8,17 +8,17 @@ use native.Mathlib.Omega.{arith}
 use borrow.Author.Tests.{eqb-true, eqb-false, leb-true, ltb-false}
 use lib.Dec.{eqb, leb}
 use lib.ListN.{length}
-use Rattle.rules.specs.Basics.{ceil}
+use Rattle.base.specs.Digits.{ceil}
+use Rattle.base.proofs.BoolLaws.{left, right, or-neither, passes-not, order}
 use Rattle.rules.specs.File.{blockSize, recordSize, blocksIn, blockAt, cellsOf, netsOf, limitOf, recordAt, brokenAt}
 use Rattle.rules.specs.Refusals.{judge, mostCells, mostNets, mostLimit, mostBlocks, wrongLength, within, outside, blocksFor, blockWrong, shapeChecks, fileChecks}
 use Rattle.rules.specs.declared.Verdict.the-variants.{Accepted}
-use Rattle.rules.proofs.Tests.{left, right, or-neither, passes-not, order}
 use Rattle.rules.proofs.Verdicts.{all-pass, append-pass, accepted}
 
 -- a number within its limits
 pub record Within (most n : ℕ) : Type 0 where
-  pub some : 0 < n
-  pub few : n ≤ most
+  pub positive : 0 < n
+  pub at-most : n ≤ most
 
 -- the file's length and sizes, once checks 1 to 5 accept it
 pub record Laid (file : List ℕ) : Type 0 where
@@ -30,7 +30,7 @@ pub record Laid (file : List ℕ) : Type 0 where
 pub within-limits : (most n : ℕ) → within most n ≡ true → Within most n
 unfolding within
 within-limits most n h =
-    record { some = leb-true _ _ (left (leb 1 n) _ h); few = leb-true _ _ (right (leb 1 n) h) }
+    record { positive = leb-true _ _ (left (leb 1 n) _ h); at-most = leb-true _ _ (right (leb 1 n) h) }
 
 -- check 1 has passed: a whole number of blocks, at least one, at most 14
 pub whole-blocks : (file : List ℕ) → wrongLength file ≡ false → (length file ≡ blockSize * blocksIn file) × (0 < blocksIn file) × (blocksIn file ≤ mostBlocks)

@@ -7,12 +7,13 @@ use mathlib.Core.Bool.{Bool, true, false}
 use mathlib.Core.List.{List, [], _∷_, _++_}
 use native.Mathlib.Omega.{arith}
 use borrow.Author.Tests.{lt-ltb, le-ltb}
-use Rattle.rules.specs.Basics.{least}
+use Rattle.base.specs.Tests.{least}
+use Rattle.base.proofs.BoolLaws.{order}
+use Rattle.base.proofs.TestLaws.{Lowest, least-lowest, least-at, least-none}
 use Rattle.rules.specs.Refusals.{Check, each, judge, numbered, shapeChecks, fileChecks, netChecks, controlChecks, earlyChecks, boardChecks, countChecks, groupsChecks, vectorChecks, marksChecks}
 use Rattle.rules.specs.declared.Refusal.{Refusal}
 use Rattle.rules.specs.declared.Verdict.{Verdict}
 use Rattle.rules.specs.declared.Verdict.the-variants.{Accepted, Refused}
-use Rattle.rules.proofs.Tests.{order, Lowest, least-lowest, least-at, least-none}
 
 -- a check passes: it applies at none of its places
 abbrev pub Passes : Check → Type 0

@@ -3,7 +3,8 @@
 use Prim.Native.Nat.{ℕ, max}
 use mathlib.Core.Bool.{Bool, true, false, not, _&&_, _||_}
 use lib.Dec.{eqb}
-use Rattle.rules.specs.Basics.{any, all, count, largest}
+use Rattle.base.specs.Tests.{any, all, largest}
+use Rattle.base.specs.Counting.{count}
 use Rattle.rules.specs.File.{Board, none, kindOf, netOf}
 use Rattle.rules.specs.declared.Cell.{Cell}
 use Rattle.rules.specs.declared.Cell.the-variants.{Internal, Input, Control, ThreeState, TwoState}

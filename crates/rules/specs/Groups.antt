@@ -3,7 +3,8 @@ use Prim.Native.Nat.{ℕ, zero, suc, _+_}
 use mathlib.Core.Bool.{Bool, true, false, cond, not, _&&_, _||_}
 use mathlib.Core.List.{List, [], _∷_, _++_}
 use lib.Dec.{ltb, leb, eqb}
-use Rattle.rules.specs.Basics.{has, rowOf}
+use Rattle.base.specs.Lists.{has}
+use Rattle.rules.specs.Rows.{rowOf}
 use Rattle.rules.specs.File.{Board, netOf}
 use Rattle.rules.specs.Drivers.{controlled, controlFor, degree, meets}
 

@@ -1,5 +1,5 @@
 -- Document 01 as definitions that compute, one module for each of its sections. Each definition has the sentence it stands for.
-pub mod Basics
+pub mod Rows
 pub mod File
 pub mod Drivers
 pub mod Groups

@@ -1,10 +1,12 @@
 -- "Marks": what a capture says of each net, as the table's tests in their order. Assumes nothing.
-use Prim.Native.Nat.{ℕ, _+_, _*_, _/_, _%_}
+use Prim.Native.Nat.{ℕ, _+_, _*_}
 use mathlib.Core.Bool.{Bool, cond, not, xor, _&&_}
 use mathlib.Core.List.{List, [], _∷_}
 use lib.Dec.{eqb}
-use Rattle.rules.specs.Basics.{any, all, bit, rowBytes, table}
-use Rattle.rules.specs.File.{Board, byteAt}
+use Rattle.base.specs.Tests.{any, all}
+use Rattle.base.specs.Lists.{table}
+use Rattle.rules.specs.Rows.{rowBytes, rowBit}
+use Rattle.rules.specs.File.{Board}
 use Rattle.rules.specs.Drivers.{isInput, onNet}
 use Rattle.rules.specs.Vectors.{totalOf, vectorAt}
 use Rattle.rules.specs.declared.Mark.{Mark}
@@ -12,7 +14,7 @@ use Rattle.rules.specs.declared.Mark.the-variants.{Pass, Fail, NotSeen, 
 
 -- "The capture has a row per vector in the same bit order": what the cell at c read in vector t
 unfoldable pub readAt : Board → List ℕ → ℕ → ℕ → Bool
-readAt b capture t c = bit (byteAt capture (t * rowBytes (b .size) + c / 8)) (c % 8)
+readAt b capture t c = rowBit capture (t * rowBytes (b .size)) c
 
 -- "A net's own word is its value in each vector": net n's in vector t
 unfoldable pub ownAt : Board → ℕ → ℕ → Bool

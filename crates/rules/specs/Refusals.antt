@@ -4,7 +4,9 @@ use mathlib.Core.Bool.{Bool, cond, not, _&&_, _||_}
 use mathlib.Core.List.{List, [], _∷_, _++_}
 use lib.Dec.{ltb, leb, eqb}
 use lib.ListN.{length}
-use Rattle.rules.specs.Basics.{any, ceil, least, rowBytes}
+use Rattle.base.specs.Tests.{any, least}
+use Rattle.base.specs.Digits.{ceil}
+use Rattle.rules.specs.Rows.{rowBytes}
 use Rattle.rules.specs.File.{Board, blockSize, blockRecords, blocksIn, sumsRight, headerRight, cellsOf, netsOf, limitOf, cellBlockRight, brokenAt, boardOf}
 use Rattle.rules.specs.Drivers.{alwaysOn, controlled, controlFor, outputOf, drivers, drives, crosses, isControl, groupsOf}
 use Rattle.rules.specs.Vectors.{totalOf}

@@ -1,10 +1,15 @@
 -- "Codes and vectors": the code's width and bits, the base vectors, those inserted between them, the plan, and a vector's row. Assumes nothing.
-use Prim.Native.Nat.{ℕ, zero, suc, _+_, _*_, _-_, _/_, _%_, _^_}
+use Prim.Native.Nat.{ℕ, suc, _+_, _*_, _-_, _/_, _%_, _^_}
 use mathlib.Core.Bool.{Bool, false, cond, not, xor, _&&_}
-use mathlib.Core.List.{List, [], _∷_, _++_}
+use mathlib.Core.List.{List}
 use lib.Dec.{ltb, leb}
 use lib.ListN.{length, getD}
-use Rattle.rules.specs.Basics.{bit, ceil, count, least, rowOf, table}
+use Rattle.base.specs.Digits.{bit, ceil}
+use Rattle.base.specs.Counting.{count, among}
+use Rattle.base.specs.Tests.{least}
+use Rattle.base.specs.Lists.{table}
+use Rattle.base.specs.Weave.{weave}
+use Rattle.rules.specs.Rows.{rowOf}
 use Rattle.rules.specs.File.{Board}
 use Rattle.rules.specs.Drivers.{groupsOf}
 use Rattle.rules.specs.Groups.{onIn}
@@ -57,17 +62,8 @@ insertedAfter s i = cond (ltb (i + 1) (s .size)) (ceil (changes s i) (s .limit) 
 unfoldable pub between : Bases → ℕ → List Step
 between s i = table (insertedAfter s i) (λ t. Inserted i (t + 1))
 
--- for each i below n, base i and then the list between i
-unfoldable pub weave {ℓ} : {A : Type ℓ} → (ℕ → A) → (ℕ → List A) → ℕ → List A
-weave base after zero = []
-weave base after (suc n) = weave base after n ++ (base n ∷ after n)
-
 unfoldable pub stepsOf : Bases → List Step
 stepsOf s = weave Base (between s) (s .size)
-
--- m is one of the k lowest members of f
-unfoldable pub among : ℕ → (ℕ → Bool) → ℕ → Bool
-among k f m = f m && ltb (count m f) k
 
 -- a vector: which group's drivers are on, and each net's value
 pub record Vector : Type 0 where

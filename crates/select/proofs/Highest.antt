@@ -10,20 +10,20 @@ use native.Mathlib.Numerals.{add-one}
 use native.Mathlib.Omega.{arith}
 use borrow.Author.Tests.{eqb-true, eqb-false, eq-eqb}
 use lib.Dec.{eqb}
+use Rattle.base.proofs.BoolLaws.{left, right, both, or-left, or-right, below-suc}
 use Rattle.rules.specs.File.{Board, boardOf, cellsOf, netOf}
 use Rattle.rules.specs.Drivers.{driverAt, controlled, controlFor, meets}
 use Rattle.rules.specs.Groups.{marked, turn, pass}
 use Rattle.rules.specs.declared.Net.{Net}
 use Rattle.rules.specs.declared.Position.{Position}
-use Rattle.rules.proofs.Tests.{left, right, both, or-left, or-right, below-suc}
-use Rattle.rules.proofs.Passes.{open-at}
-use Rattle.rules.proofs.Selection.{Sound, degrees-equal}
 use Rattle.rules.specs.declared.Driver.the-variants.{Of, Nothing}
+use Rattle.rules.proofs.PassLaws.{open-at}
+use Rattle.rules.proofs.Selection.{Sound, degrees-equal}
+use Rattle.rules.proofs.NetSetLaws.{driver-own}
+use Rattle.rules.proofs.DriverLaws.{is-driver, no-driver, control-below}
 use Rattle.chains.specs.Table.{ControlCell, headIn}
 use Rattle.chains.specs.Chains.{last, keyed, Chains}
 use Rattle.chains.proofs.Chaining.{last-le, last-member, keyed-control}
-use Rattle.rules.proofs.Driving.{driver-own}
-use Rattle.rules.proofs.DriverLaws.{is-driver, no-driver, control-below}
 use Rattle.chains.proofs.Walks.{cell-fits}
 use Rattle.select.specs.declared.turns.Pass.{Pass}
 use Rattle.select.specs.Turns.{wantedAt, wantedIn}

@@ -4,7 +4,7 @@ use mathlib.Core.Path.{_≡_, sym, _∙_, ap}
 use mathlib.Core.List.{List}
 use native.Mathlib.Numerals.{add-one}
 use native.Mathlib.Omega.{arith}
-use Rattle.rules.specs.Basics.{largest}
+use Rattle.base.specs.Tests.{largest}
 use Rattle.rules.specs.File.{boardOf, netsOf}
 use Rattle.rules.specs.Drivers.{drivers, degree, groupsOf}
 use Rattle.rules.proofs.Degree.{degree-drivers}

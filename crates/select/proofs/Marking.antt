@@ -6,13 +6,15 @@ use mathlib.Core.Bool.{true, false≢true}
 use mathlib.Core.List.{List, [], _∷_}
 use native.Mathlib.Omega.{arith}
 use borrow.Author.Tests.{eqb-true}
-use Rattle.rules.specs.Basics.{has}
+use Rattle.base.specs.Lists.{has}
+use Rattle.base.proofs.BoolLaws.{left, right, both, or-left, or-right, or-cases, same-test}
+use Rattle.base.proofs.TestLaws.{any-at, any-member}
+use Rattle.base.proofs.ListLaws.{has-here, has-there, has-cases}
 use Rattle.rules.specs.File.{Board, netOf}
 use Rattle.rules.specs.Drivers.{controlled, controlFor, onNet, driverOf, drives, meets}
 use Rattle.rules.specs.Groups.{marked}
-use Rattle.rules.proofs.Tests.{left, right, both, or-left, or-right, or-cases, any-at, any-member, same-test}
-use Rattle.rules.proofs.Driving.{meets-net, meets-at, drives-driver, driver-own}
-use Rattle.rules.proofs.Passes.{has-here, has-there, has-cases, marked-by, marks}
+use Rattle.rules.proofs.NetSetLaws.{meets-net, meets-at, drives-driver, driver-own}
+use Rattle.rules.proofs.PassLaws.{marked-by, marks}
 use Rattle.words.specs.Sets.{netWords, meetsIn}
 use Rattle.select.specs.Turns.{coveredBy, reached}
 

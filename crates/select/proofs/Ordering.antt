@@ -9,11 +9,12 @@ use native.Mathlib.Numerals.{add-one, sub-one}
 use native.Mathlib.Omega.{arith}
 use lib.ListN.{set, length-set}
 use lib.Seq.{getD-set-same, getD-set-other}
-use Rattle.rules.specs.Basics.{count}
+use Rattle.base.specs.Counting.{count}
+use Rattle.base.proofs.BoolLaws.{below-suc}
+use Rattle.base.proofs.CountingLaws.{count-le}
 use Rattle.rules.specs.File.{Board, boardOf, cellsOf}
 use Rattle.rules.specs.Groups.{turn, pass}
 use Rattle.rules.specs.Refusals.{mostCells}
-use Rattle.rules.proofs.Tests.{below-suc, count-le}
 use Rattle.rules.proofs.Selection.{sound}
 use Rattle.chains.specs.Table.{spareFrom, spareIn}
 use Rattle.chains.proofs.Walks.{cells-fit}

@@ -6,17 +6,17 @@ use mathlib.Core.List.{List, [], _∷_}
 use native.Mathlib.Numerals.{sub-one}
 use native.Mathlib.Omega.{arith}
 use lib.Dec.{eqb}
-use Rattle.rules.specs.Basics.{has}
+use Rattle.base.specs.Lists.{has}
+use Rattle.base.proofs.ListLaws.{has-append}
 use Rattle.rules.specs.File.{Board, boardOf, cellsOf, netsOf, netOf}
 use Rattle.rules.specs.Drivers.{driverAt, controlled, drives}
 use Rattle.rules.specs.Groups.{marked, turn, pass, firstPass, secondPass, selected, earlier, group, onIn}
 use Rattle.rules.specs.declared.Net.{Net}
 use Rattle.rules.specs.declared.Position.{Position}
-use Rattle.rules.proofs.Shape.{laid, shaped}
-use Rattle.rules.proofs.Passes.{has-append}
-use Rattle.words.specs.Sets.{netWords, member, nothing, either, plus, meetsIn}
 use Rattle.rules.specs.declared.Driver.the-variants.{Of, Nothing}
+use Rattle.rules.proofs.Shape.{laid, shaped}
 use Rattle.rules.proofs.DriverLaws.{is-driver, no-driver, net-below}
+use Rattle.words.specs.Sets.{netWords, member, nothing, either, plus, meetsIn}
 use Rattle.chains.specs.Table.{countIn}
 use Rattle.chains.proofs.Brought.{known-net}
 use Rattle.select.specs.declared.turns.Pass.{Pass}
@@ -98,7 +98,7 @@ module _ (file t : List ℕ) (ready : Ready file t) (c : ℕ) (l : c < cellsOf f
   known = known-net file (ready .by-control .checked)
 
   few : netsOf file ≤ 64 * netWords
-  few = let f = laid file (shaped file (ready .by-control .checked)) .nets .few in omega arith
+  few = let f = laid file (shaped file (ready .by-control .checked)) .nets .at-most in omega arith
 
   pub marked-told : (on : List ℕ) (f : ℕ → Bool) (r : Bool) → f ≡ coveredBy (boardOf file) on → r ≡ f (n .0) → r ≡ true → marked (boardOf file) on (k .0) ≡ true
   unfolding boardOf

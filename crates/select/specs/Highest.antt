@@ -4,7 +4,7 @@ use mathlib.Core.Path.{_≡_}
 use mathlib.Core.Bool.{Bool, cond, _&&_}
 use mathlib.Core.List.{List, [], _∷_}
 use lib.Dec.{eqb}
-use Rattle.rules.specs.Basics.{count}
+use Rattle.base.specs.Counting.{count}
 use Rattle.rules.specs.File.{Board, boardOf, cellsOf}
 use Rattle.rules.specs.Drivers.{controlled, controlFor}
 use Rattle.rules.specs.Groups.{turn}

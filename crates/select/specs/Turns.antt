@@ -5,7 +5,7 @@ use mathlib.Core.Bool.{Bool, true, false, cond, not, _||_}
 use mathlib.Core.List.{List, [], _∷_}
 use lib.Dec.{ltb, leb}
 use lib.ListN.{length}
-use Rattle.rules.specs.Basics.{has}
+use Rattle.base.specs.Lists.{has}
 use Rattle.rules.specs.File.{Board, cellsOf}
 use Rattle.rules.specs.Drivers.{degree, drives}
 use Rattle.rules.specs.Groups.{turn, pass}

@@ -5,11 +5,12 @@ use mathlib.Core.Bool.{Bool, true, false, not, xor, _&&_, _||_}
 use mathlib.Core.List.{List}
 use lib.Dec.{ltb, eqb}
 use lib.ListN.{length, getD}
-use Rattle.rules.specs.Basics.{any, all, bit}
+use Rattle.base.specs.Tests.{any, all}
+use Rattle.base.specs.Digits.{bit}
 use Rattle.rules.specs.File.{mostNumber}
 use Rattle.rules.specs.Refusals.{mostCells, mostNets}
-use Rattle.words.specs.declared.Lie.{Lie}
-use Rattle.words.specs.declared.Lie.the-variants.{Apart, Inside, Holds, Equal, Crossing}
+use Rattle.words.specs.declared.Relation.{Relation}
+use Rattle.words.specs.declared.Relation.the-variants.{Apart, Inside, Holds, Equal, Crossing}
 
 -- the words of a set of nets, and of a set of cells
 abbrev pub netWords : ℕ
@@ -55,16 +56,16 @@ unfoldable pub insideIn : ℕ → (ℕ → Bool) → (ℕ → Bool) → Bool
 insideIn n f g = all n (λ m. not (f m) || g m)
 
 -- how two sets lie, by: g holds f, f holds g, they meet
-abbrev pub lieBy : Bool → Bool → Bool → Lie
-lieBy true true meet = Equal
-lieBy true false meet = Inside
-lieBy false true meet = Holds
-lieBy false false true = Crossing
-lieBy false false false = Apart
+abbrev pub relationBy : Bool → Bool → Bool → Relation
+relationBy true true meet = Equal
+relationBy true false meet = Inside
+relationBy false true meet = Holds
+relationBy false false true = Crossing
+relationBy false false false = Apart
 
 -- how f lies to g, among the numbers below n: the first that holds of equal, inside, around, crossing; else apart
-unfoldable pub lieOf : ℕ → (ℕ → Bool) → (ℕ → Bool) → Lie
-lieOf n f g = lieBy (insideIn n f g) (insideIn n g f) (meetsIn n f g)
+unfoldable pub relationOf : ℕ → (ℕ → Bool) → (ℕ → Bool) → Relation
+relationOf n f g = relationBy (insideIn n f g) (insideIn n g f) (meetsIn n f g)
 
 -- as many words as one list may have: a number of a member, or of members, then fits a `usize`
 abbrev pub mostWords : ℕ
@@ -73,4 +74,4 @@ mostWords = mostNumber
 -- two lists of words that are compared or joined word by word
 pub record Alike (a b : List ℕ) : Type 0 where
   pub long : length a ≡ length b
-  pub few : length a ≤ mostWords
+  pub words-bounded : length a ≤ mostWords

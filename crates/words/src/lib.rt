@@ -1,18 +1,18 @@
-// Sets of nets and of cells, as bits of `u64` words. Each is a thin value over the loops of `core`;
+// Sets of nets and of cells, as bits of `u64` words. Each is a thin value over `loops`;
 // what its words mean is `member` of specs/Sets.antt.
 
 ghost use mathlib.Core.Path.{_≡_};
 ghost use mathlib.Core.Bool.{xor};
 ghost use Prim.Native.Nat.{_*_, _-_, _<_, _≤_};
-ghost use Rattle.rules.specs.Basics.{count, seek};
-ghost use Rattle.rules.specs.Vectors.{among};
-ghost use Rattle.words.specs.Sets.{netWords, cellWords, member, nothing, plus, either, unlike, meetsIn, insideIn, lieOf};
+ghost use Rattle.base.specs.Counting.{count, among};
+ghost use Rattle.base.specs.Tests.{seek};
+ghost use Rattle.words.specs.Sets.{netWords, cellWords, member, nothing, plus, either, unlike, meetsIn, insideIn, relationOf};
 use rules::MOST_CELLS;
 use rules::MOST_NETS;
 use rules::Net;
 use rules::Position;
 
-pub mod core;
+pub mod loops;
 
 // How many words hold a set of nets, and a set of cells.
 pub const NET_WORDS: usize = (MOST_NETS + 63) / 64;
@@ -21,7 +21,7 @@ pub const CELL_WORDS: usize = (MOST_CELLS + 63) / 64;
 
 // How one set lies to another: no member in common, inside it, around it, the same, or crossing it.
 // The set of nothing lies inside every other.
-pub enum Lie {
+pub enum Relation {
     Apart,
     Inside,
     Holds,
@@ -50,7 +50,7 @@ impl NetSet {
         ensures { λ r. ⌜ member (r .words) ≡ plus (member (self .words)) (n .0) ⌝ }
     {
         let mut words = self.words;
-        core::add(&mut words, n.0 as usize);
+        loops::add(&mut words, n.0 as usize);
         NetSet { words }
     }
 
@@ -60,7 +60,7 @@ impl NetSet {
         ensures { λ r. ⌜ r ≡ member (self .words) (n .0) ⌝ }
     {
         let words = self.words;
-        core::has(&words, n.0 as usize)
+        loops::has(&words, n.0 as usize)
     }
 
     // The nets of both sets.
@@ -69,7 +69,7 @@ impl NetSet {
     {
         let mut words = self.words;
         let more = other.words;
-        core::join(&mut words, &more);
+        loops::join(&mut words, &more);
         NetSet { words }
     }
 
@@ -79,7 +79,7 @@ impl NetSet {
     {
         let mut words = self.words;
         let more = other.words;
-        core::flip(&mut words, &more);
+        loops::flip(&mut words, &more);
         NetSet { words }
     }
 
@@ -89,7 +89,7 @@ impl NetSet {
     {
         let a = self.words;
         let b = other.words;
-        core::meets(&a, &b)
+        loops::meets(&a, &b)
     }
 
     // Each net of the other set is in this one.
@@ -98,16 +98,16 @@ impl NetSet {
     {
         let a = self.words;
         let b = other.words;
-        core::inside(&b, &a)
+        loops::inside(&b, &a)
     }
 
     // How the set lies to the other.
-    pub fn compare(self, other: NetSet) -> Lie
-        ensures { λ r. ⌜ r ≡ lieOf (64 * netWords) (member (self .words)) (member (other .words)) ⌝ }
+    pub fn compare(self, other: NetSet) -> Relation
+        ensures { λ r. ⌜ r ≡ relationOf (64 * netWords) (member (self .words)) (member (other .words)) ⌝ }
     {
         let a = self.words;
         let b = other.words;
-        core::compare(&a, &b)
+        loops::compare(&a, &b)
     }
 
     // How many nets are in one set and not in the other.
@@ -116,7 +116,7 @@ impl NetSet {
     {
         let a = self.words;
         let b = other.words;
-        core::differing(&a, &b)
+        loops::differing(&a, &b)
     }
 
     // The k lowest nets of the set.
@@ -124,7 +124,7 @@ impl NetSet {
         ensures { λ r. ⌜ member (r .words) ≡ among k (member (self .words)) ⌝ }
     {
         let mut words = self.words;
-        core::keep_lowest(&mut words, k);
+        loops::keep_lowest(&mut words, k);
         NetSet { words }
     }
 }
@@ -150,7 +150,7 @@ impl CellSet {
         ensures { λ r. ⌜ member (r .words) ≡ plus (member (self .words)) (p .0) ⌝ }
     {
         let mut words = self.words;
-        core::add(&mut words, p.0 as usize);
+        loops::add(&mut words, p.0 as usize);
         CellSet { words }
     }
 
@@ -160,7 +160,7 @@ impl CellSet {
         ensures { λ r. ⌜ r ≡ member (self .words) (p .0) ⌝ }
     {
         let words = self.words;
-        core::has(&words, p.0 as usize)
+        loops::has(&words, p.0 as usize)
     }
 
     // The cells of both sets.
@@ -169,7 +169,7 @@ impl CellSet {
     {
         let mut words = self.words;
         let cells = other.words;
-        core::join(&mut words, &cells);
+        loops::join(&mut words, &cells);
         CellSet { words }
     }
 
@@ -179,6 +179,6 @@ impl CellSet {
         ensures { λ r. ⌜ r ≡ seek (member (self .words)) (64 * cellWords - from) from ⌝ }
     {
         let words = self.words;
-        core::next(&words, from)
+        loops::next(&words, from)
     }
 }

@@ -1,7 +1,7 @@
 -- `blocks::blocks_for` meets its contract: it computes what the definition says.
 use mathlib.Core.Path.{refl}
 use borrow.Author.Needs.{needs}
-use Rattle.rules.specs.Basics.{ceil}
+use Rattle.base.specs.Digits.{ceil}
 use Rattle.rules.specs.Refusals.{blocksFor}
 use Rattle.blocks.proofs.blocks_for.Statement.{statement}
 use Rattle.blocks.proofs.blocks_for.Tie as tie

@@ -6,9 +6,9 @@ use mathlib.Core.Bool.{Bool, _&&_}
 use mathlib.Core.List.{List}
 use native.Mathlib.Omega.{arith}
 use borrow.Author.Needs.{needs}
+use Rattle.base.proofs.BoolLaws.{and-next, and-stop}
 use Rattle.rules.specs.File.{blockSize, blockRecords, recordSize, headSize, summed, blockAt, zeros, recordsIn, cellBlockRight}
 use Rattle.blocks.specs.Places.{CellBlock}
-use Rattle.blocks.proofs.Flags.{and-next, and-stop}
 use Rattle.blocks.proofs.Heading.{cell-head}
 use Rattle.blocks.proofs.Lengths.{records-few}
 use Rattle.blocks.proofs.cell_block_right.Statement.{statement}

@@ -6,9 +6,9 @@ use mathlib.Core.Bool.{Bool, _&&_}
 use borrow.Author.Needs.{needs}
 use borrow.Author.Tests.{eq-eqb, ne-eqb}
 use lib.Dec.{eqb}
+use Rattle.base.proofs.BoolLaws.{and-next, and-stop}
 use Rattle.blocks.specs.Reading.{headIs}
 use Rattle.blocks.specs.declared.Head.{Head}
-use Rattle.blocks.proofs.Flags.{and-next, and-stop}
 use Rattle.blocks.proofs.head_is.Statement.{statement}
 use Rattle.blocks.proofs.head_is.Tie as tie
 

@@ -8,11 +8,11 @@ use mathlib.Core.List.{List}
 use native.Mathlib.Omega.{arith}
 use borrow.Author.Tests.{lt-ltb, le-ltb}
 use lib.Dec.{ltb}
+use Rattle.base.proofs.BoolLaws.{and-next, and-stop}
 use Rattle.rules.specs.File.{summed, zeros, headRight, headerRight}
 use Rattle.blocks.specs.Places.{Headed}
 use Rattle.blocks.specs.Reading.{signatureRight}
 use Rattle.blocks.specs.declared.Heads.{Heads}
-use Rattle.blocks.proofs.Flags.{and-next, and-stop}
 use Rattle.blocks.proofs.Heading.{headed-first}
 use Rattle.blocks.proofs.Lengths.{right-length}
 use Rattle.blocks.proofs.header_right.Statement.{statement}
@@ -45,7 +45,7 @@ pub header-right-spec : {M : Type 1} → statement M
 header-right-spec =
     tie.close
     (tie.spec
-    (λ c κs. right-length _ (c .before .before .before .pre .right) .some)
-    (λ c κs. let l = right-length _ (entry (c .before) .pre .right) .some in omega arith)
+    (λ c κs. right-length _ (c .before .before .before .pre .right) .has-header)
+    (λ c κs. let l = right-length _ (entry (c .before) .pre .right) .has-header in omega arith)
     returns
     returns-2)

@@ -4,8 +4,8 @@ use mathlib.Core.Bool.{Bool}
 use mathlib.Core.List.{[], _∷_}
 use borrow.Author.Needs.{needs}
 use Rattle.rules.specs.Refusals.{judge, once}
+use Rattle.rules.proofs.CheckLaws.{once-fails, once-passes}
 use Rattle.blocks.proofs.Lengths.{right-length}
-use Rattle.rules.proofs.Searching.{once-fails, once-passes}
 use Rattle.blocks.proofs.header_verdict.Statement.{statement}
 use Rattle.blocks.proofs.header_verdict.Tie as tie
 
@@ -24,7 +24,7 @@ header-verdict-spec =
     tie.close
     (tie.spec
     (λ c κs. c .before .pre)
-    (λ c κs. right-length _ (c .before .before .before .pre .right) .some)
+    (λ c κs. right-length _ (c .before .before .before .pre .right) .has-header)
     (λ c κs. search needs)
     (λ c κs. search needs)
     returns

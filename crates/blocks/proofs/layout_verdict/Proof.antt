@@ -4,11 +4,12 @@ use Prim.Native.Nat.{_-_}
 use mathlib.Core.Path.{sym, _∙_}
 use mathlib.Core.List.{[]}
 use native.Mathlib.Omega.{arith}
+use Rattle.base.proofs.TestLaws.{Searched, search-start, search-next}
 use Rattle.rules.specs.File.{blocksIn}
 use Rattle.rules.specs.Refusals.{blockWrong}
+use Rattle.rules.proofs.CheckLaws.{found, ended}
 use Rattle.blocks.proofs.Heading.{next-right, lower-right}
 use Rattle.blocks.proofs.Lengths.{right-length}
-use Rattle.rules.proofs.Searching.{Searched, search-start, search-next, found, ended}
 use Rattle.blocks.proofs.layout_verdict.Statement.{statement}
 use Rattle.blocks.proofs.layout_verdict.Tie as tie
 

@@ -3,9 +3,9 @@ use mathlib.Core.Path.{_≡_, _∙_}
 use mathlib.Core.Logic.{⊎-elim}
 use mathlib.Core.Bool.{Bool, _&&_}
 use borrow.Author.Needs.{needs}
+use Rattle.base.proofs.BoolLaws.{and-next, and-stop}
 use Rattle.rules.specs.Refusals.{within, outside, mostCells, mostNets, mostLimit}
 use Rattle.blocks.specs.declared.Sizes.{Sizes}
-use Rattle.blocks.proofs.Flags.{and-next, and-stop}
 use Rattle.blocks.proofs.outside.Statement.{statement}
 use Rattle.blocks.proofs.outside.Tie as tie
 

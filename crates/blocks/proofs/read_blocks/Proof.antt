@@ -5,12 +5,13 @@ use mathlib.Core.Bool.{not}
 use mathlib.Core.List.{[]}
 use native.Mathlib.Omega.{arith}
 use borrow.Author.Needs.{needs}
+use Rattle.base.proofs.TestLaws.{Searched, search-start, search-next}
 use Rattle.rules.specs.File.{blocksIn, cellsOf, sumsRight}
-use Rattle.rules.proofs.Searching.{Searched, search-start, search-next, found, ended}
+use Rattle.rules.proofs.CheckLaws.{found, ended}
 use Rattle.blocks.specs.Reading.{stoppedAt, BlocksOf, RightTo}
 use Rattle.blocks.proofs.Heading.{right-none, right-next, right-all}
 use Rattle.blocks.proofs.Lengths.{right-length}
-use Rattle.blocks.proofs.Opening.{held, held-head, refused, given}
+use Rattle.blocks.proofs.ReadingLaws.{held, held-head, refused, given}
 use Rattle.blocks.proofs.read_blocks.Statement.{statement}
 use Rattle.blocks.proofs.read_blocks.Tie as tie
 
@@ -31,7 +32,7 @@ read-requires : tie.Need-read-requires Inv-loop μ-loop
 read-requires c κs =
     let l = right-length _ (entry c .pre) in
     let t = c .loop-test .taken in
-    record { whole = omega arith; low = omega arith }
+    record { whole = omega arith; place-bounded = omega arith }
 
 returns : tie.Need-returns Inv-loop μ-loop
 unfolding blocksIn

@@ -3,7 +3,7 @@ use mathlib.Core.Path.{_≡_, refl, sym, _∙_}
 use mathlib.Core.Bool.{false}
 use borrow.Author.Needs.{needs}
 use Rattle.rules.specs.Refusals.{wrongLength}
-use Rattle.rules.proofs.Searching.{once-accepted}
+use Rattle.rules.proofs.CheckLaws.{once-accepted}
 use Rattle.rules.proofs.Verdicts.{stopped, passed}
 use Rattle.blocks.specs.Places.{Headed}
 use Rattle.blocks.proofs.Lengths.{right-length}
@@ -84,6 +84,6 @@ shape-verdict-spec =
     (λ c. search needs)
     (λ c. search needs)
     returns-3
-    (λ c κs. right-length _ (headed (header-at c .before) .right) .some)
+    (λ c κs. right-length _ (headed (header-at c .before) .right) .has-header)
     layout-verdict-requires
     returns-4)

@@ -5,7 +5,7 @@ use native.Mathlib.Omega.{arith}
 use borrow.Author.Needs.{needs}
 use lib.ListN.{length, drop}
 use Rattle.rules.specs.File.{sumsFrom, sumsOf}
-use Rattle.blocks.proofs.Adding.{sums-next, sums-end}
+use Rattle.blocks.proofs.SumLaws.{sums-next, sums-end}
 use Rattle.blocks.proofs.sums.Statement.{statement}
 use Rattle.blocks.proofs.sums.Tie as tie
 

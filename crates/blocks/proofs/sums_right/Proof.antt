@@ -8,9 +8,9 @@ use borrow.Author.Needs.{needs}
 use borrow.Author.Tests.{eq-eqb, ne-eqb}
 use lib.Dec.{eqb}
 use lib.ListN.{take, drop}
+use Rattle.base.proofs.BoolLaws.{and-next, and-stop}
 use Rattle.rules.specs.File.{blockSize, summed, blockAt, numberAt, sumsOf, sumsRight}
 use Rattle.rules.specs.declared.Sums.{Sums}
-use Rattle.blocks.proofs.Flags.{and-next, and-stop}
 use Rattle.blocks.proofs.sums_right.Statement.{statement}
 use Rattle.blocks.proofs.sums_right.Tie as tie
 

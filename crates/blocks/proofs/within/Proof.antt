@@ -1,8 +1,8 @@
 -- `blocks::within` meets its contract, by the two ways of its first test.
 use mathlib.Core.Path.{refl}
 use borrow.Author.Tests.{le-leb, lt-leb}
+use Rattle.base.proofs.BoolLaws.{and-next, and-stop}
 use Rattle.rules.specs.Refusals.{within}
-use Rattle.blocks.proofs.Flags.{and-next, and-stop}
 use Rattle.blocks.proofs.within.Statement.{statement}
 use Rattle.blocks.proofs.within.Tie as tie
 

@@ -7,9 +7,9 @@ use borrow.Author.Needs.{needs}
 use borrow.Author.Tests.{eq-eqb, ne-eqb}
 use lib.Dec.{eqb}
 use lib.ListN.{length}
+use Rattle.base.proofs.BoolLaws.{or-next, or-stop}
 use Rattle.rules.specs.File.{blockSize}
 use Rattle.rules.specs.Refusals.{wrongLength}
-use Rattle.blocks.proofs.Flags.{or-next, or-stop}
 use Rattle.blocks.proofs.wrong_length.Statement.{statement}
 use Rattle.blocks.proofs.wrong_length.Tie as tie
 

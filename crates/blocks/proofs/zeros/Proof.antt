@@ -5,7 +5,7 @@ use native.Mathlib.Omega.{arith}
 use borrow.Author.Needs.{needs}
 use lib.Dec.{eqb}
 use Rattle.rules.specs.File.{byteAt, zeros}
-use Rattle.blocks.proofs.Ranges.{zeros-none, zeros-next, zeros-end}
+use Rattle.blocks.proofs.ZeroLaws.{zeros-none, zeros-next, zeros-end}
 use Rattle.blocks.proofs.zeros.Statement.{statement}
 use Rattle.blocks.proofs.zeros.Tie as tie
 

@@ -4,10 +4,10 @@ use mathlib.Core.Path.{_≡_, sym, _∙_}
 use mathlib.Core.List.{List}
 use native.Mathlib.Omega.{arith}
 use Rattle.rules.specs.File.{recordAt, boardOf, numberAt, netAt, brokenAt, netOf}
-use Rattle.rules.proofs.Records.{record-says}
+use Rattle.rules.proofs.RecordLaws.{record-says}
 use Rattle.rules.proofs.Shape.{whole-records}
 use Rattle.cells.specs.Whole.{Whole}
-use Rattle.cells.proofs.InRecord.{few, whole-shaped, in-record}
+use Rattle.cells.proofs.WholeLaws.{position-bounded, whole-shaped, in-record}
 use Rattle.cells.proofs.net_at.Statement.{statement}
 use Rattle.cells.proofs.net_at.Tie as tie
 
@@ -20,7 +20,7 @@ pub net-at-spec : {M : Type 1} → statement M
 net-at-spec =
     tie.close
     (tie.spec
-    (λ c κs. let p = c .before .pre in let f = few _ _ (whole-shaped _ _ p) (p .below) in omega arith)
+    (λ c κs. let p = c .before .pre in let f = position-bounded _ _ (whole-shaped _ _ p) (p .below) in omega arith)
     (λ c. let h = in-record _ _ _ (c .before .before .pre) (c .record-start .ensures) in omega arith)
     (λ c κs. let h = in-record _ _ _ (c .before .before .pre) (c .record-start .ensures) in omega arith)
     (λ c. c .pair .ensures ∙ as-read _ _ _ (c .before .before .before .pre) (c .before .record-start .ensures)))

@@ -8,7 +8,7 @@ use native.Mathlib.Omega.{arith}
 use lib.Dec.{eqb}
 use lib.ListN.{getD}
 use Rattle.rules.specs.File.{cellsOf, recordAt, ofKind2, kindAt, byteAt}
-use Rattle.cells.proofs.InRecord.{inside, few}
+use Rattle.cells.proofs.WholeLaws.{inside, position-bounded}
 use Rattle.cells.proofs.of_kind_2.Statement.{statement}
 use Rattle.cells.proofs.of_kind_2.Tie as tie
 
@@ -25,7 +25,7 @@ record-start-requires c κs =
     let pre = c .before .before .pre in
     let e = pre .1 in
     let l = c .if1 .taken in
-    let f = few _ (c .before .before .args .k) (pre .0) (omega arith) in
+    let f = position-bounded _ (c .before .before .args .k) (pre .0) (omega arith) in
     omega arith
 
 shared-slice-read-result : tie.Need-shared-slice-read-result

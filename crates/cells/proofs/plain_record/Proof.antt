@@ -6,12 +6,12 @@ use borrow.Author.Tests.{ne-eqb}
 use native.Mathlib.Omega.{arith}
 use lib.ListN.{length, getD}
 use Rattle.rules.specs.File.{recordAt, recordSize, numberAt, byteAt, kindAt, onAt, controlAt, netAt, tableOf, recordOf, brokenAt}
-use Rattle.rules.proofs.Records.{plainRecord, plain-record}
-use Rattle.rules.proofs.Shape.{whole-records}
 use Rattle.rules.specs.declared.Cell.the-variants.{Input, ThreeState, TwoState}
 use Rattle.rules.specs.declared.Record.the-variants.{Means, Broken}
+use Rattle.rules.proofs.RecordLaws.{plainRecord, plain-record}
+use Rattle.rules.proofs.Shape.{whole-records}
 use Rattle.cells.specs.Whole.{Whole}
-use Rattle.cells.proofs.InRecord.{few, whole-shaped, in-record}
+use Rattle.cells.proofs.WholeLaws.{position-bounded, whole-shaped, in-record}
 use Rattle.cells.proofs.plain_record.Statement.{statement}
 use Rattle.cells.proofs.plain_record.Tie as tie
 
@@ -79,7 +79,7 @@ pub plain-record-spec : {M : Type 1} → statement M
 plain-record-spec =
     tie.close
     (tie.spec
-    (λ c κs. let p = c .before .pre in let f = few _ _ (whole-shaped _ _ p) (p .below) in omega arith)
+    (λ c κs. let p = c .before .pre in let f = position-bounded _ _ (whole-shaped _ _ p) (p .below) in omega arith)
     (λ c. let h = room (c .before) in omega arith)
     (λ c. let h = room (c .before .before) in omega arith)
     (λ c κs. let h = room (c .before .before) in omega arith)

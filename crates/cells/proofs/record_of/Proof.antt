@@ -9,7 +9,7 @@ use lib.Dec.{ltb}
 use lib.ListN.{length, getD}
 use Rattle.rules.specs.File.{netsOf, numberAt, byteAt, recordAt, recordSize, kindAt, onAt, controlAt, netAt, ofKind2, tableOf, recordOf}
 use Rattle.cells.specs.Whole.{Shaped, Sized}
-use Rattle.cells.proofs.InRecord.{inside, few}
+use Rattle.cells.proofs.WholeLaws.{inside, position-bounded}
 use Rattle.cells.proofs.record_of.Statement.{statement}
 use Rattle.cells.proofs.record_of.Tie as tie
 
@@ -28,7 +28,7 @@ record-start-requires c κs =
     let pre = c .before .pre in
     let e = pre .1 .0 .cells-are in
     let l = pre .1 .1 in
-    let f = few _ (c .before .args .p) (pre .0) (omega arith) in
+    let f = position-bounded _ (c .before .args .p) (pre .0) (omega arith) in
     omega arith
 
 at3 : tie.Need-shared-slice-read-on

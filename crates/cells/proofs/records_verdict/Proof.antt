@@ -4,9 +4,10 @@ use mathlib.Core.Path.{sym, _∙_}
 use mathlib.Core.List.{[]}
 use borrow.Author.Needs.{needs}
 use native.Mathlib.Omega.{arith}
+use Rattle.base.proofs.TestLaws.{Searched, search-start, search-next}
 use Rattle.rules.specs.File.{cellsOf, brokenAt}
-use Rattle.rules.proofs.Searching.{Searched, search-start, search-next, found, ended}
-use Rattle.cells.proofs.InRecord.{few}
+use Rattle.rules.proofs.CheckLaws.{found, ended}
+use Rattle.cells.proofs.WholeLaws.{position-bounded}
 use Rattle.cells.proofs.records_verdict.Statement.{statement}
 use Rattle.cells.proofs.records_verdict.Tie as tie
 
@@ -24,7 +25,7 @@ refuse-requires c κs =
     let pre = c .before .before .before .before .before .before .pre in
     let e = pre .1 .cells-are in
     let l = c .before .before .before .loop-test .taken in
-    let f = few _ (c .before .before .before .before .loop .p) (pre .0) (omega arith) in
+    let f = position-bounded _ (c .before .before .before .before .loop .p) (pre .0) (omega arith) in
     omega arith
 
 returns : tie.Need-returns Inv-loop μ-loop

@@ -8,7 +8,7 @@ use Rattle.rules.specs.Vectors.{totalOf}
 use Rattle.rules.proofs.Shape.{laid, shaped, one-block}
 use Rattle.select.specs.Turns.{Ready}
 use Rattle.plan.specs.Planning.{PlanOf}
-use Rattle.plan.proofs.Planned.{small-plan, total-is}
+use Rattle.plan.proofs.PlanningLaws.{small-plan, total-is}
 use Rattle.listing.proofs.say_vectors.Statement.{statement}
 use Rattle.listing.proofs.say_vectors.Tie as tie
 

@@ -7,8 +7,8 @@ use Rattle.rules.specs.File.{boardOf}
 use Rattle.words.specs.Sets.{netWords}
 use Rattle.marks.specs.Judging.{readerIn}
 use Rattle.marks.specs.declared.Reader.the-variants.{Of}
-use Rattle.marks.proofs.Inputs.{reader-is, net-fits, entry-fits}
-use Rattle.marks.proofs.Growing.{grown-none, grown-own, grown-other}
+use Rattle.marks.proofs.InputLaws.{reader-is, net-fits, entry-fits}
+use Rattle.marks.proofs.TestedLaws.{grown-none, grown-own, grown-other}
 use Rattle.marks.proofs.add_reading.Statement.{statement}
 use Rattle.marks.proofs.add_reading.Tie as tie
 

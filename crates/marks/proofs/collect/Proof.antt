@@ -4,7 +4,7 @@ use borrow.Author.Needs.{needs}
 use native.Mathlib.Omega.{arith}
 use Rattle.rules.specs.File.{boardOf}
 use Rattle.marks.specs.Judging.{TestedBelow}
-use Rattle.marks.proofs.Growing.{tested-all}
+use Rattle.marks.proofs.TestedLaws.{tested-all}
 use Rattle.marks.proofs.collect.Statement.{statement}
 use Rattle.marks.proofs.collect.Tie as tie
 

@@ -3,7 +3,7 @@ use borrow.Author.Needs.{needs}
 use native.Mathlib.Omega.{arith}
 use lib.Dec.{ltb}
 use Rattle.rules.specs.Marks.{isPass, isFail}
-use Rattle.marks.proofs.Marking.{digit-few, one-more}
+use Rattle.marks.proofs.MarkedLaws.{digit-few, one-more}
 use Rattle.marks.proofs.count_byte.Statement.{statement}
 use Rattle.marks.proofs.count_byte.Tie as tie
 

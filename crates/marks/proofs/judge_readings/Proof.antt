@@ -7,7 +7,7 @@ use native.Mathlib.Omega.{arith}
 use Rattle.rules.specs.File.{boardOf}
 use Rattle.rules.specs.Answers.{over}
 use Rattle.rules.proofs.Shape.{laid, shaped}
-use Rattle.marks.proofs.Marking.{marks-in, counted-in}
+use Rattle.marks.proofs.MarkedLaws.{marks-in, counted-in}
 use Rattle.marks.proofs.judge_readings.Statement.{statement}
 use Rattle.marks.proofs.judge_readings.Tie as tie
 
@@ -15,7 +15,7 @@ write-marks-requires : tie.Need-write-marks-requires
 write-marks-requires c κs =
     let p = c .before .before .before .before .before .pre in
     let n = p .1 .0 .nets-are in
-    let few = laid _ (shaped _ (p .0 .checked)) .nets .few in
+    let few = laid _ (shaped _ (p .0 .checked)) .nets .at-most in
     (p .1 .1, omega arith)
 
 returns : tie.Need-returns

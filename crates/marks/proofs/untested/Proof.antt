@@ -1,6 +1,6 @@
 -- Three sets of nothing.
 use borrow.Author.Needs.{needs}
-use Rattle.marks.proofs.Growing.{tested-none}
+use Rattle.marks.proofs.TestedLaws.{tested-none}
 use Rattle.marks.proofs.untested.Statement.{statement}
 use Rattle.marks.proofs.untested.Tie as tie
 

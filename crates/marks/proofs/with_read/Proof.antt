@@ -1,7 +1,7 @@
 -- An entry of 0 brings nothing (read-none), an entry of 1 + m net m (read-one).
 use mathlib.Core.Path.{_∙_}
 use borrow.Author.Needs.{needs}
-use Rattle.marks.proofs.Growing.{read-none, read-one}
+use Rattle.marks.proofs.TestedLaws.{read-none, read-one}
 use Rattle.marks.proofs.with_read.Statement.{statement}
 use Rattle.marks.proofs.with_read.Tie as tie
 

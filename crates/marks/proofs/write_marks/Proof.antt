@@ -5,7 +5,7 @@ use borrow.Author.Needs.{needs}
 use native.Mathlib.Omega.{arith}
 use Rattle.rules.specs.Marks.{byteOf}
 use Rattle.marks.specs.Judging.{Marked}
-use Rattle.marks.proofs.Marking.{marked-none, marked-more, marked-long, marked-few}
+use Rattle.marks.proofs.MarkedLaws.{marked-none, marked-more, marked-long, marked-few}
 use Rattle.marks.proofs.write_marks.Statement.{statement}
 use Rattle.marks.proofs.write_marks.Tie as tie
 

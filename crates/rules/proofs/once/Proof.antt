@@ -3,7 +3,7 @@ use mathlib.Core.Path.{sym, _∙_}
 use mathlib.Core.List.{[]}
 use borrow.Author.Needs.{needs}
 use Rattle.rules.specs.Refusals.{judge}
-use Rattle.rules.proofs.Searching.{once-fails, once-passes}
+use Rattle.rules.proofs.CheckLaws.{once-fails, once-passes}
 use Rattle.rules.proofs.once.Statement.{statement}
 use Rattle.rules.proofs.once.Tie as tie
 

@@ -6,7 +6,7 @@ use mathlib.Core.List.{[], _∷_}
 use native.Mathlib.Omega.{arith}
 use Rattle.rules.specs.Refusals.{judge, each}
 use Rattle.rules.specs.declared.Verdict.the-variants.{Accepted}
-use Rattle.rules.proofs.Searching.{ended}
+use Rattle.rules.proofs.CheckLaws.{ended}
 use Rattle.board.proofs.controls.crossed_verdict.Statement.{statement}
 use Rattle.board.proofs.controls.crossed_verdict.Tie as tie
 

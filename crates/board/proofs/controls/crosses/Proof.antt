@@ -4,7 +4,7 @@ use mathlib.Core.Path.{_≡_, sym, _∙_}
 use mathlib.Core.List.{List}
 use native.Mathlib.Omega.{arith}
 use borrow.Author.Needs.{needs}
-use Rattle.rules.specs.Basics.{seek}
+use Rattle.base.specs.Tests.{seek}
 use Rattle.rules.specs.File.{boardOf, cellsOf}
 use Rattle.rules.specs.Drivers.{drives, crosses}
 use Rattle.words.specs.Sets.{cellWords, member}

@@ -6,9 +6,9 @@ use mathlib.Core.List.{List}
 use borrow.Author.Tests.{eq-eqb, ne-eqb}
 use native.Mathlib.Omega.{arith}
 use lib.Dec.{eqb}
+use Rattle.base.proofs.BoolLaws.{left, both, not-fails}
 use Rattle.rules.specs.File.{Board, boardOf, cellsOf}
 use Rattle.rules.specs.Refusals.{mostCells}
-use Rattle.rules.proofs.Tests.{left, both, not-fails}
 use Rattle.chains.specs.Table.{ControlCell, headIn}
 use Rattle.chains.specs.Chains.{keyed}
 use Rattle.chains.proofs.Chaining.{Walking}

@@ -4,7 +4,7 @@ use mathlib.Core.Path.{_≡_, sym, _∙_}
 use mathlib.Core.Logic.{⊎-elim}
 use mathlib.Core.List.{List}
 use native.Mathlib.Omega.{arith}
-use Rattle.rules.proofs.Tests.{order}
+use Rattle.base.proofs.BoolLaws.{order}
 use Rattle.chains.specs.Table.{ControlCell, headIn}
 use Rattle.board.specs.Controls.{Idle}
 use Rattle.board.proofs.controls.driven_from.Statement.{statement}

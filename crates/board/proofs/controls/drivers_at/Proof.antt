@@ -5,10 +5,10 @@ use mathlib.Core.Bool.{true}
 use mathlib.Core.List.{List}
 use borrow.Author.Needs.{needs}
 use native.Mathlib.Omega.{arith}
+use Rattle.base.proofs.BoolLaws.{or-left}
 use Rattle.rules.specs.File.{boardOf, cellsOf, netOf}
 use Rattle.rules.specs.Drivers.{controlled, drivers}
 use Rattle.rules.specs.Refusals.{mostNets}
-use Rattle.rules.proofs.Tests.{or-left}
 use Rattle.rules.proofs.Shape.{whole-records}
 use Rattle.rules.proofs.DriverLaws.{kept-net}
 use Rattle.chains.specs.Table.{countIn}

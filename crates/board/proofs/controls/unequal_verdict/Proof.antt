@@ -3,9 +3,10 @@ use Prim.Native.Nat.{_-_}
 use mathlib.Core.Path.{sym, _∙_}
 use mathlib.Core.List.{[]}
 use native.Mathlib.Omega.{arith}
+use Rattle.base.proofs.TestLaws.{Searched, search-start, search-next}
 use Rattle.rules.specs.File.{boardOf, cellsOf}
 use Rattle.rules.specs.Refusals.{unequal}
-use Rattle.rules.proofs.Searching.{Searched, search-start, search-next, found, ended}
+use Rattle.rules.proofs.CheckLaws.{found, ended}
 use Rattle.chains.proofs.Walks.{cells-fit}
 use Rattle.board.proofs.ControlChecks.{past-idle, idle-equal}
 use Rattle.board.proofs.controls.unequal_verdict.Statement.{statement}

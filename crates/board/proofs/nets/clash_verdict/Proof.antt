@@ -3,9 +3,10 @@ use Prim.Native.Nat.{_-_}
 use mathlib.Core.Path.{sym, _∙_}
 use mathlib.Core.List.{[]}
 use native.Mathlib.Omega.{arith}
+use Rattle.base.proofs.TestLaws.{Searched, search-start, search-next}
 use Rattle.rules.specs.File.{boardOf, netsOf}
 use Rattle.rules.specs.Refusals.{clashing}
-use Rattle.rules.proofs.Searching.{Searched, search-start, search-next, found, ended}
+use Rattle.rules.proofs.CheckLaws.{found, ended}
 use Rattle.chains.proofs.Walks.{net-fits}
 use Rattle.board.proofs.nets.clash_verdict.Statement.{statement}
 use Rattle.board.proofs.nets.clash_verdict.Tie as tie

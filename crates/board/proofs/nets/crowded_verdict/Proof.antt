@@ -5,8 +5,9 @@ use mathlib.Core.Bool.{true, false}
 use mathlib.Core.List.{List, []}
 use borrow.Author.Tests.{lt-ltb, le-ltb}
 use native.Mathlib.Omega.{arith}
+use Rattle.base.proofs.TestLaws.{Searched, search-start, search-next}
 use Rattle.rules.specs.Refusals.{mostDrivers}
-use Rattle.rules.proofs.Searching.{Searched, search-start, search-next, found, ended}
+use Rattle.rules.proofs.CheckLaws.{found, ended}
 use Rattle.chains.specs.Table.{countIn}
 use Rattle.board.specs.Nets.{crowdedIn}
 use Rattle.board.proofs.nets.crowded_verdict.Statement.{statement}

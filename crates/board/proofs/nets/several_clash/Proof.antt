@@ -12,7 +12,7 @@ use Rattle.rules.specs.Refusals.{mostNets}
 use Rattle.rules.specs.declared.Driver.the-variants.{Of}
 use Rattle.rules.proofs.DriverLaws.{driver-is, control-below}
 use Rattle.words.specs.Sets.{cellWords, member}
-use Rattle.words.proofs.Members.{member-zeros}
+use Rattle.words.proofs.SetLaws.{member-zeros}
 use Rattle.chains.specs.Table.{NetOf, headIn}
 use Rattle.chains.proofs.Walks.{net-fits, cells-fit, cell-fits, link-low}
 use Rattle.board.proofs.Clashing.{Met, meeting-start, meeting-on, meeting-under, meeting-again, meeting-next, meeting-ended, always-clashes}

@@ -4,7 +4,8 @@ use mathlib.Core.Path.{sym, _∙_}
 use mathlib.Core.List.{[]}
 use borrow.Author.Tests.{eq-eqb, ne-eqb}
 use native.Mathlib.Omega.{arith}
-use Rattle.rules.proofs.Searching.{Searched, search-start, search-next, found, ended}
+use Rattle.base.proofs.TestLaws.{Searched, search-start, search-next}
+use Rattle.rules.proofs.CheckLaws.{found, ended}
 use Rattle.board.specs.Nets.{undrivenIn}
 use Rattle.board.proofs.nets.undriven_verdict.Statement.{statement}
 use Rattle.board.proofs.nets.undriven_verdict.Tie as tie

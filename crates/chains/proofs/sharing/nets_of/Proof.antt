@@ -9,7 +9,7 @@ use lib.ListN.{length}
 use Rattle.rules.specs.File.{boardOf, cellsOf}
 use Rattle.rules.specs.Refusals.{mostCells}
 use Rattle.words.specs.Sets.{netWords, member, nothing}
-use Rattle.words.proofs.Members.{member-zeros}
+use Rattle.words.proofs.SetLaws.{member-zeros}
 use Rattle.chains.specs.Table.{ControlCell, headIn}
 use Rattle.chains.specs.Chains.{keyed}
 use Rattle.chains.proofs.Walks.{cell-fits, cells-fit, link-low}

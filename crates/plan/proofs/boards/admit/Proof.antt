@@ -4,7 +4,7 @@ use borrow.Author.Needs.{needs}
 use Rattle.rules.specs.Refusals.{judge, boardChecks}
 use Rattle.rules.specs.declared.Verdict.the-variants.{Accepted}
 use Rattle.rules.proofs.Verdicts.{never, stopped, passed}
-use Rattle.plan.proofs.Planned.{small-plan, row-count, check-is}
+use Rattle.plan.proofs.PlanningLaws.{small-plan, row-count, check-is}
 use Rattle.plan.proofs.boards.admit.Statement.{statement}
 use Rattle.plan.proofs.boards.admit.Tie as tie
 

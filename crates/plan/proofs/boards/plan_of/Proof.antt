@@ -1,7 +1,7 @@
 -- The header's N and SSOL, G by the numbers of drivers, p by N.
 use native.Mathlib.Omega.{arith}
 use Rattle.rules.proofs.Shape.{laid, shaped, one-block}
-use Rattle.plan.proofs.Planned.{plan-from}
+use Rattle.plan.proofs.PlanningLaws.{plan-from}
 use Rattle.plan.proofs.boards.plan_of.Statement.{statement}
 use Rattle.plan.proofs.boards.plan_of.Tie as tie
 
@@ -9,7 +9,7 @@ width-requires : tie.Need-width-requires
 width-requires c κs =
     let p = c .before .before .before .pre in
     let e = c .before .read-sizes .ensures .nets in
-    let l = laid _ (shaped _ (p .by-control .checked)) .nets .few in
+    let l = laid _ (shaped _ (p .by-control .checked)) .nets .at-most in
     omega arith
 
 returns : tie.Need-returns

@@ -4,8 +4,8 @@ use mathlib.Core.Bool.{Bool, cond}
 use native.Mathlib.Omega.{arith}
 use borrow.Author.Needs.{needs}
 use lib.Dec.{ltb}
+use Rattle.base.proofs.WordLaws.{read-digit}
 use Rattle.rules.specs.Vectors.{codeBit}
-use Rattle.words.proofs.Words.{read-digit}
 use Rattle.plan.proofs.Patterns.{low-word, high-word}
 use Rattle.plan.proofs.codes.code_word.Statement.{statement}
 use Rattle.plan.proofs.codes.code_word.Tie as tie

@@ -7,9 +7,9 @@ use borrow.Author.Needs.{needs}
 use borrow.Author.Tests.{lt-ltb}
 use lib.Bits.{bitAnd}
 use lib.Pow.{pow-pos}
-use Rattle.rules.specs.Basics.{bit}
-use Rattle.words.proofs.Words.{bit-and, one-shifted}
-use Rattle.plan.proofs.Patterns.{bit-ones, below-from}
+use Rattle.base.specs.Digits.{bit}
+use Rattle.base.proofs.WordLaws.{bit-and, one-shifted, bit-ones}
+use Rattle.plan.proofs.Patterns.{below-from}
 use Rattle.plan.proofs.codes.cut.Statement.{statement}
 use Rattle.plan.proofs.codes.cut.Tie as tie
 

@@ -3,8 +3,8 @@ use mathlib.Core.Path.{refl}
 use native.Mathlib.Nat.{le-div-iff-mul-le}
 use native.Mathlib.Omega.{arith}
 use borrow.Author.Needs.{needs}
-use Rattle.rules.specs.Basics.{ceil}
-use Rattle.rules.proofs.Digits.{ceil-zero}
+use Rattle.base.specs.Digits.{ceil}
+use Rattle.base.proofs.DigitLaws.{ceil-zero}
 use Rattle.plan.proofs.codes.inserted.Statement.{statement}
 use Rattle.plan.proofs.codes.inserted.Tie as tie
 

@@ -8,7 +8,7 @@ use lib.Dec.{ltb}
 use lib.ListN.{length}
 use Rattle.rules.specs.Vectors.{codeBit}
 use Rattle.words.specs.Sets.{netWords, member, nothing, upTo}
-use Rattle.words.proofs.Members.{member-zeros, Written, written-none, written-more}
+use Rattle.words.proofs.SetLaws.{member-zeros, Written, written-none, written-more}
 use Rattle.plan.proofs.Patterns.{written-far}
 use Rattle.plan.proofs.codes.pattern.Statement.{statement}
 use Rattle.plan.proofs.codes.pattern.Tie as tie

@@ -3,7 +3,7 @@ use Prim.Native.Nat.{_+_}
 use native.Mathlib.Omega.{arith}
 use borrow.Author.Needs.{needs}
 use lib.Count.{leading-le}
-use Rattle.plan.proofs.Coding.{digits-width}
+use Rattle.plan.proofs.WidthLaws.{digits-width}
 use Rattle.plan.proofs.codes.width.Statement.{statement}
 use Rattle.plan.proofs.codes.width.Tie as tie
 

@@ -1,8 +1,8 @@
 -- There is a next base vector, or none is inserted.
 use mathlib.Core.Path.{_∙_}
 use native.Mathlib.Omega.{arith}
-use Rattle.plan.proofs.Stepping.{size-low, extra-none}
-use Rattle.plan.proofs.Repeating.{full-is}
+use Rattle.plan.proofs.StepLaws.{size-low, extra-none}
+use Rattle.plan.proofs.RoundLaws.{full-is}
 use Rattle.plan.proofs.steps.extra_after.Statement.{statement}
 use Rattle.plan.proofs.steps.extra_after.Tie as tie
 

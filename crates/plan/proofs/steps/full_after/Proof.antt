@@ -1,8 +1,8 @@
 -- What is inserted between the values of base vector i and of the next.
 use mathlib.Core.Path.{_∙_}
 use native.Mathlib.Omega.{arith}
-use Rattle.plan.proofs.Stepping.{size-low}
-use Rattle.plan.proofs.Repeating.{between-is}
+use Rattle.plan.proofs.StepLaws.{size-low}
+use Rattle.plan.proofs.RoundLaws.{between-is}
 use Rattle.plan.proofs.steps.full_after.Statement.{statement}
 use Rattle.plan.proofs.steps.full_after.Tie as tie
 
@@ -12,7 +12,7 @@ add-base-values c =
     omega (arith, p .1, size-low _ (p .0))
 
 inserted-between-requires : tie.Need-inserted-between-requires
-inserted-between-requires c κs = let s = c .before .before .pre .0 in (s .limited, s .low)
+inserted-between-requires c κs = let s = c .before .before .pre .0 in (s .limited, s .limit-bounded)
 
 returns : tie.Need-returns
 returns c =

@@ -2,8 +2,8 @@
 use mathlib.Core.Path.{_∙_, ap}
 use borrow.Author.Needs.{needs}
 use Prim.Native.Nat.{ℕ, _-_}
-use Rattle.rules.specs.Basics.{ceil}
-use Rattle.rules.proofs.Tests.{count-le}
+use Rattle.base.specs.Digits.{ceil}
+use Rattle.base.proofs.CountingLaws.{count-le}
 use Rattle.plan.specs.Plans.{insertedBetween}
 use Rattle.plan.proofs.steps.inserted_between.Statement.{statement}
 use Rattle.plan.proofs.steps.inserted_between.Tie as tie

@@ -4,7 +4,7 @@ use mathlib.Core.Path.{_≡_, sym, _∙_, ap}
 use native.Mathlib.Omega.{arith}
 use Rattle.words.specs.Sets.{member}
 use Rattle.plan.specs.Plans.{basesFor, fullStart, roundOf}
-use Rattle.plan.proofs.Repeating.{between-is, full-zero, full-next, full-low, full-start-low}
+use Rattle.plan.proofs.RoundLaws.{between-is, full-zero, full-next, full-low, full-start-low}
 use Rattle.plan.proofs.steps.round.Statement.{statement}
 use Rattle.plan.proofs.steps.round.Tie as tie
 
@@ -22,7 +22,7 @@ add-base-values : tie.Need-add-base-values Inv-loop μ-loop
 add-base-values c = let s = c .before .before .before .before .pre in let n = s .narrow in omega (arith, c .if1 .taken)
 
 inserted-between-requires : tie.Need-inserted-between-requires Inv-loop μ-loop
-inserted-between-requires c κs = let s = c .before .before .before .before .before .pre in (s .limited, s .low)
+inserted-between-requires c κs = let s = c .before .before .before .before .before .pre in (s .limited, s .limit-bounded)
 
 add-n : tie.Need-add-n Inv-loop μ-loop
 add-n c =

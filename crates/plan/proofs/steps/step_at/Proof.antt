@@ -6,7 +6,7 @@ use lib.ListN.{getD}
 use Rattle.rules.specs.Vectors.{stepsOf}
 use Rattle.rules.specs.declared.Step.the-variants.{Base}
 use Rattle.plan.specs.Plans.{basesFor}
-use Rattle.plan.proofs.Repeating.{round-some}
+use Rattle.plan.proofs.RoundLaws.{round-some}
 use Rattle.plan.proofs.steps.step_at.Statement.{statement}
 use Rattle.plan.proofs.steps.step_at.Tie as tie
 

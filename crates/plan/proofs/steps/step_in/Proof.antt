@@ -4,8 +4,8 @@ use mathlib.Core.Path.{_≡_}
 use native.Mathlib.Omega.{arith}
 use borrow.Author.Needs.{needs}
 use Rattle.plan.specs.Plans.{fullAfter, fullStart}
-use Rattle.plan.proofs.Stepping.{size-low}
-use Rattle.plan.proofs.Repeating.{full-zero, full-next, round-below, round-on, turn-low, turn-base, turn-inserted}
+use Rattle.plan.proofs.StepLaws.{size-low}
+use Rattle.plan.proofs.RoundLaws.{full-zero, full-next, round-below, round-on, turn-low, turn-base, turn-inserted}
 use Rattle.plan.proofs.steps.step_in.Statement.{statement}
 use Rattle.plan.proofs.steps.step_in.Tie as tie
 

@@ -1,6 +1,6 @@
 -- Each group has a round, but after the last pattern of the last nothing is inserted (total-rounds).
 use native.Mathlib.Omega.{arith}
-use Rattle.plan.proofs.Repeating.{round-below, rounds-low, total-rounds}
+use Rattle.plan.proofs.RoundLaws.{round-below, rounds-low, total-rounds}
 use Rattle.plan.proofs.steps.total.Statement.{statement}
 use Rattle.plan.proofs.steps.total.Tie as tie
 

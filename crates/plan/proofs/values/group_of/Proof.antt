@@ -5,7 +5,7 @@ use borrow.Author.Needs.{needs}
 use Rattle.rules.specs.Vectors.{vectorOf}
 use Rattle.rules.specs.declared.Step.{Step}
 use Rattle.plan.specs.Plans.{Within, basesFor}
-use Rattle.plan.proofs.Mixing.{group-low, group-base, group-inserted}
+use Rattle.plan.proofs.MixLaws.{group-low, group-base, group-inserted}
 use Rattle.plan.proofs.values.group_of.Statement.{statement}
 use Rattle.plan.proofs.values.group_of.Tie as tie
 

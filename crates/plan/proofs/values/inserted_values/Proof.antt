@@ -1,8 +1,8 @@
 -- The two base vectors' values, mixed.
 use native.Mathlib.Omega.{arith}
 use borrow.Author.Needs.{needs}
-use Rattle.plan.proofs.Stepping.{size-low}
-use Rattle.plan.proofs.Mixing.{changed-low, mix-inserted}
+use Rattle.plan.proofs.StepLaws.{size-low}
+use Rattle.plan.proofs.MixLaws.{changed-low, mix-inserted}
 use Rattle.plan.proofs.values.inserted_values.Statement.{statement}
 use Rattle.plan.proofs.values.inserted_values.Tie as tie
 

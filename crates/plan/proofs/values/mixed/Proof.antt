@@ -1,9 +1,9 @@
 -- A differing net that has changed sides has its new value.
 use mathlib.Core.Path.{_∙_, ap}
 use borrow.Author.Needs.{needs}
-use Rattle.rules.specs.Vectors.{among}
+use Rattle.base.specs.Counting.{among}
 use Rattle.words.specs.Sets.{unlike}
-use Rattle.plan.proofs.Mixing.{mixed-nets}
+use Rattle.plan.proofs.MixLaws.{mixed-nets}
 use Rattle.plan.proofs.values.mixed.Statement.{statement}
 use Rattle.plan.proofs.values.mixed.Tie as tie
 

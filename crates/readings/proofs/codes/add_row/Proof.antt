@@ -3,14 +3,15 @@ use Prim.Native.Nat.{_+_, _*_, _-_, _≤_}
 use mathlib.Core.Path.{refl}
 use native.Mathlib.Omega.{arith}
 use borrow.Author.Needs.{needs}
-use Rattle.rules.specs.Basics.{digit}
-use Rattle.readings.specs.Readings.{seenAt, Mapped}
-use Rattle.readings.proofs.Mapping.{mapped-none, mapped-more, mapped-all, entry-in, entry-low, byte-inside, digit-read}
+use Rattle.base.specs.Tests.{digit}
+use Rattle.rules.specs.Rows.{rowBit}
+use Rattle.readings.specs.Readings.{Mapped}
+use Rattle.readings.proofs.MappedLaws.{mapped-none, mapped-more, mapped-all, entry-in, entry-low, byte-inside, digit-read}
 use Rattle.readings.proofs.codes.add_row.Statement.{statement}
 use Rattle.readings.proofs.codes.add_row.Tie as tie
 
 abbrev Inv-loop : tie.InvT-loop
-Inv-loop capture at cells table₀ c₀ table c = (c ≤ cells) × Mapped (λ x code. 2 * code + digit (seenAt capture at x)) table₀ c table
+Inv-loop capture at cells table₀ c₀ table c = (c ≤ cells) × Mapped (λ x code. 2 * code + digit (rowBit capture at x)) table₀ c table
 
 abbrev μ-loop : tie.MeasureT-loop
 μ-loop capture at cells table₀ c₀ table c = cells - c

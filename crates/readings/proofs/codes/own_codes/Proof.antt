@@ -6,7 +6,7 @@ use borrow.Author.Needs.{needs}
 use mathlib.Core.Bool.{cond}
 use lib.Dec.{ltb}
 use Rattle.readings.specs.Readings.{Mapped}
-use Rattle.readings.proofs.Mapping.{mapped-none, mapped-more, mapped-all}
+use Rattle.readings.proofs.MappedLaws.{mapped-none, mapped-more, mapped-all}
 use Rattle.readings.proofs.codes.own_codes.Statement.{statement}
 use Rattle.readings.proofs.codes.own_codes.Tie as tie
 

@@ -6,12 +6,13 @@ use lib.ListN.{length}
 use Rattle.rules.specs.Refusals.{mostWidth}
 use Rattle.rules.specs.Vectors.{stepsOf}
 use Rattle.words.specs.Sets.{netWords}
-use Rattle.plan.specs.Plans.{basesFor}
-use Rattle.plan.proofs.Stepping.{extra-low}
-use Rattle.readings.specs.Readings.{startOf, codeFrom, mostHalf, Mapped}
-use Rattle.readings.proofs.Mapping.{mapped-id, mapped-same, mapped-low}
-use Rattle.readings.proofs.Places.{starts-none, starts-next, rowed, row-scanned, place-low}
-use Rattle.readings.proofs.Decoding.{first-below, first-in, code-low, code-none, code-more, code-all}
+use Rattle.plan.specs.Plans.{basesFor, startOf}
+use Rattle.plan.proofs.StepLaws.{extra-low}
+use Rattle.plan.proofs.RoundLaws.{round-below}
+use Rattle.readings.specs.Readings.{codeFrom, mostHalf, Mapped}
+use Rattle.readings.proofs.MappedLaws.{mapped-id, mapped-same, mapped-low}
+use Rattle.readings.proofs.CapturePlaces.{starts-none, starts-next, rowed, row-scanned, place-low}
+use Rattle.readings.proofs.Decoding.{first-in, code-low, code-none, code-more, code-all}
 use Rattle.readings.proofs.codes.read_codes.Statement.{statement}
 use Rattle.readings.proofs.codes.read_codes.Tie as tie
 
@@ -58,7 +59,7 @@ extra-after-requires : tie.Need-extra-after-requires Inv-loop μ-loop
 extra-after-requires c κs =
     let d = c .before .before .before .before in
     let s = entry (round d) .pre .0 .small in
-    (s, first-below _ _ s (d .if1 .taken))
+    (s, round-below _ s _ (d .if1 .taken))
 
 -- as many vectors as follow a base vector are few
 few : (d : tie.After-extra-after Inv-loop μ-loop) → d .extra-after .result ≤ 64 * netWords

@@ -5,8 +5,8 @@ use native.Mathlib.Omega.{arith}
 use borrow.Author.Needs.{needs}
 use Rattle.words.specs.Sets.{member}
 use Rattle.readings.specs.Readings.{strayAt, Left}
-use Rattle.readings.proofs.Sifting.{left-none, left-byte, left-upto}
-use Rattle.readings.proofs.Mapping.{entries-below}
+use Rattle.readings.proofs.LeftLaws.{left-none, left-byte, left-upto}
+use Rattle.readings.proofs.MappedLaws.{entries-below}
 use Rattle.readings.proofs.scan.check_rows.Statement.{statement}
 use Rattle.readings.proofs.scan.check_rows.Tie as tie
 

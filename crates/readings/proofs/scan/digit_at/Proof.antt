@@ -1,6 +1,6 @@
 -- The byte shifted down by i, and its lowest digit, is digit i.
 use borrow.Author.Needs.{needs}
-use Rattle.words.proofs.Words.{read-digit}
+use Rattle.base.proofs.WordLaws.{read-digit}
 use Rattle.readings.proofs.scan.digit_at.Statement.{statement}
 use Rattle.readings.proofs.scan.digit_at.Tie as tie
 

@@ -2,12 +2,12 @@
 use native.Mathlib.Omega.{arith}
 use borrow.Author.Needs.{needs}
 use Rattle.rules.specs.File.{byteAt}
-use Rattle.readings.specs.Readings.{seenAt}
+use Rattle.rules.specs.Rows.{rowBit}
 use Rattle.readings.proofs.scan.seen.Statement.{statement}
 use Rattle.readings.proofs.scan.seen.Tie as tie
 
 returns : tie.Need-returns
-unfolding seenAt byteAt
+unfolding rowBit byteAt
 returns c = c .digit-at .ensures
 
 pub seen-spec : {M : Type 1} → statement M

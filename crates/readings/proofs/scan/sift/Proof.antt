@@ -3,11 +3,11 @@ use Prim.Native.Nat.{_-_, _≤_}
 use mathlib.Core.Path.{_≡_}
 use native.Mathlib.Omega.{arith}
 use borrow.Author.Needs.{needs}
-use Rattle.rules.specs.Basics.{word}
-use Rattle.rules.proofs.Digits.{word-lt}
+use Rattle.base.specs.Digits.{word}
+use Rattle.base.proofs.DigitLaws.{word-lt}
 use Rattle.words.specs.Sets.{member}
 use Rattle.readings.specs.Readings.{staying}
-use Rattle.readings.proofs.Sifting.{all-stay, word-next, word-start, stays-at, digits-all}
+use Rattle.readings.proofs.LeftLaws.{all-stay, word-next, word-start, stays-at, digits-all}
 use Rattle.readings.proofs.scan.sift.Statement.{statement}
 use Rattle.readings.proofs.scan.sift.Tie as tie
 
@@ -26,7 +26,7 @@ loop-holds c = (omega arith, word-start _)
 stays-requires : tie.Need-stays-requires Inv-loop μ-loop
 stays-requires c κs =
     let t = c .before .loop-test .taken in
-    (t, c .before .before .before .before .before .pre .low _ (omega arith))
+    (t, c .before .before .before .before .before .pre .entries-bounded _ (omega arith))
 
 with-digit-requires : tie.Need-with-digit-requires Inv-loop μ-loop
 with-digit-requires c κs =

@@ -1,7 +1,7 @@
 -- The three cases of the two digits.
 use mathlib.Core.Path.{sym, _∙_}
 use borrow.Author.Needs.{needs}
-use Rattle.readings.proofs.Sifting.{alike, differs}
+use Rattle.readings.proofs.LeftLaws.{alike, differs}
 use Rattle.readings.proofs.scan.stays.Statement.{statement}
 use Rattle.readings.proofs.scan.stays.Tie as tie
 

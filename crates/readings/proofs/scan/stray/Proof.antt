@@ -1,6 +1,6 @@
 -- By the net that the entry names.
 use native.Mathlib.Omega.{arith}
-use Rattle.readings.proofs.Sifting.{stray-none, stray-some}
+use Rattle.readings.proofs.LeftLaws.{stray-none, stray-some}
 use Rattle.readings.proofs.scan.stray.Statement.{statement}
 use Rattle.readings.proofs.scan.stray.Tie as tie
 

@@ -6,8 +6,8 @@ use native.Mathlib.Nat.{two-pow-succ}
 use native.Mathlib.Omega.{arith}
 use borrow.Author.Needs.{needs}
 use lib.Pow.{pow-mono}
-use Rattle.rules.specs.Basics.{digit}
-use Rattle.words.proofs.Words.{one-shifted}
+use Rattle.base.specs.Tests.{digit}
+use Rattle.base.proofs.WordLaws.{one-shifted}
 use Rattle.readings.proofs.scan.with_digit.Statement.{statement}
 use Rattle.readings.proofs.scan.with_digit.Tie as tie
 

@@ -2,7 +2,7 @@
 use mathlib.Core.Path.{sym, _∙_, ap}
 use Prim.Native.Nat.{ℕ, _*_}
 use native.Mathlib.Omega.{arith}
-use Rattle.readings.proofs.Sifting.{still-lent}
+use Rattle.readings.proofs.LeftLaws.{still-lent}
 use Rattle.readings.proofs.Following.{left-lost, period-low}
 use Rattle.readings.proofs.walk.check_all.Statement.{statement}
 use Rattle.readings.proofs.walk.check_all.Tie as tie
@@ -13,7 +13,7 @@ check-later-requires c κs =
     let e = c .before .before .before .before .before .total .ensures in
     let f = c .before .before .before .check-first .ensures in
     let v = p .vectors in
-    (record { short = p .short; few = omega arith; ends = (let l = period-low _ (p .small) in omega (arith, f .0)); rows-are = p .rows-are ∙ ap (λ (x : ℕ). x * c .before .before .before .before .before .before .before .before .before .args .bytes) (sym e) }, still-lent (c .before .before .before .before .before .before .before .before .before .pre .1) (f .1))
+    (record { short = p .short; vectors-bounded = omega arith; ends = (let l = period-low _ (p .small) in omega (arith, f .0)); rows-are = p .rows-are ∙ ap (λ (x : ℕ). x * c .before .before .before .before .before .before .before .before .before .args .bytes) (sym e) }, still-lent (c .before .before .before .before .before .before .before .before .before .pre .1) (f .1))
 
 returns : tie.Need-returns
 returns c =

@@ -2,13 +2,14 @@
 use Prim.Native.Nat.{_*_, _-_, _≤_}
 use mathlib.Core.Path.{_≡_}
 use native.Mathlib.Omega.{arith}
-use Rattle.rules.specs.Basics.{any}
+use Rattle.base.specs.Tests.{any}
 use Rattle.words.specs.Sets.{netWords}
-use Rattle.plan.proofs.Stepping.{extra-low}
-use Rattle.readings.specs.Readings.{startOf, strayIn, Left}
-use Rattle.readings.proofs.Places.{starts-none, starts-next, part-below}
-use Rattle.readings.proofs.Decoding.{first-below}
-use Rattle.readings.proofs.Sifting.{still-lent}
+use Rattle.plan.specs.Plans.{startOf}
+use Rattle.plan.proofs.StepLaws.{extra-low}
+use Rattle.plan.proofs.RoundLaws.{round-below}
+use Rattle.readings.specs.Readings.{strayIn, Left}
+use Rattle.readings.proofs.CapturePlaces.{starts-none, starts-next, part-below}
+use Rattle.readings.proofs.LeftLaws.{still-lent}
 use Rattle.readings.proofs.Following.{left-no-part, left-parts, left-first, period-is}
 use Rattle.readings.proofs.walk.check_first.Statement.{statement}
 use Rattle.readings.proofs.walk.check_first.Tie as tie
@@ -40,7 +41,7 @@ check-part-requires c κs =
     let r = d .before .before .before in
     let p = entry r .pre in
     let inv = r .loop .inv in
-    let below = first-below _ _ (p .0 .small) (d .before .if1 .taken) in
+    let below = round-below _ (p .0 .small) _ (d .before .if1 .taken) in
     (p .0, (record { below = below; extra-is = d .extra-after .ensures; start-is = inv .1 }, still-lent (p .1) (inv .2)))
 
 add-t-2 : tie.Need-add-t-2 Inv-loop μ-loop
@@ -50,7 +51,7 @@ add-t-2 c =
     let p = entry r .pre .0 in
     let low = few d in
     let v = p .vectors in
-    let q = part-below _ _ 0 _ (first-below _ _ (p .small) (d .before .if1 .taken)) (r .loop .inv .1) (omega arith) in
+    let q = part-below _ _ 0 _ (round-below _ (p .small) _ (d .before .if1 .taken)) (r .loop .inv .1) (omega arith) in
     omega arith
 
 add-i : tie.Need-add-i Inv-loop μ-loop
@@ -82,7 +83,7 @@ check-first-spec =
     tie.close
     (tie.spec Inv-loop μ-loop
     (λ c. (omega arith, starts-none _, left-no-part _ _ _ _ _ _))
-    (λ c κs. let p = entry (c .before .before) .pre .0 in (p .small, first-below _ _ (p .small) (c .if1 .taken)))
+    (λ c κs. let p = entry (c .before .before) .pre .0 in (p .small, round-below _ (p .small) _ (c .if1 .taken)))
     check-part-requires
     (λ c. let low = few (counted c) in omega arith)
     add-t-2

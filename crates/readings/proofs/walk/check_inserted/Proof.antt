@@ -4,14 +4,14 @@ use mathlib.Core.Path.{_≡_, refl, _∙_}
 use native.Mathlib.Omega.{arith}
 use borrow.Author.Needs.{needs}
 use lib.ListN.{length}
-use Rattle.rules.specs.Basics.{any}
+use Rattle.base.specs.Tests.{any}
 use Rattle.rules.specs.Refusals.{mostVectors}
 use Rattle.words.specs.Sets.{netWords, member}
 use Rattle.plan.specs.Plans.{basesFor}
-use Rattle.plan.proofs.Mixing.{changed-low}
-use Rattle.plan.proofs.Stepping.{size-low, extra-low}
+use Rattle.plan.proofs.MixLaws.{changed-low}
+use Rattle.plan.proofs.StepLaws.{size-low, extra-low}
 use Rattle.readings.specs.Readings.{valueAt, strayAfter, Left}
-use Rattle.readings.proofs.Sifting.{still-lent}
+use Rattle.readings.proofs.LeftLaws.{still-lent}
 use Rattle.readings.proofs.Following.{left-start, left-next, left-last, next-row, values-first, values-next, values-last, values-on}
 use Rattle.readings.proofs.walk.check_inserted.Statement.{statement}
 use Rattle.readings.proofs.walk.check_inserted.Tie as tie

@@ -5,13 +5,13 @@ use mathlib.Core.List.{List}
 use native.Mathlib.Omega.{arith}
 use borrow.Author.Needs.{needs}
 use lib.ListN.{length}
-use Rattle.rules.specs.Basics.{any}
+use Rattle.base.specs.Tests.{any}
 use Rattle.rules.specs.File.{numberValues}
 use Rattle.rules.specs.Refusals.{mostBytes}
 use Rattle.words.specs.Sets.{member, nothing}
 use Rattle.readings.specs.Readings.{otherLater, Later, Left}
-use Rattle.readings.proofs.Places.{row-in, place-in}
-use Rattle.readings.proofs.Sifting.{still-lent}
+use Rattle.readings.proofs.CapturePlaces.{row-in, place-in}
+use Rattle.readings.proofs.LeftLaws.{still-lent}
 use Rattle.readings.proofs.Following.{left-no-later, left-later, left-laters}
 use Rattle.readings.proofs.walk.check_later.Statement.{statement}
 use Rattle.readings.proofs.walk.check_later.Tie as tie
@@ -27,8 +27,8 @@ abbrev μ-loop : tie.MeasureT-loop
 inside : (capture : List ℕ) (first vectors bytes t : ℕ) → Later capture first vectors bytes → t < vectors → t * bytes + bytes ≤ length capture
 inside capture first vectors bytes t h l = row-in t vectors bytes (length capture) l (h .rows-are)
 
-low : (capture : List ℕ) (first vectors bytes t : ℕ) → Later capture first vectors bytes → t < vectors → t * bytes ≤ numberValues * mostBytes
-low capture first vectors bytes t h l = place-in t vectors bytes l (h .few) (h .short)
+place-bounded : (capture : List ℕ) (first vectors bytes t : ℕ) → Later capture first vectors bytes → t < vectors → t * bytes ≤ numberValues * mostBytes
+place-bounded capture first vectors bytes t h l = place-in t vectors bytes l (h .vectors-bounded) (h .short)
 
 check-rows-requires : tie.Need-check-rows-requires Inv-loop μ-loop
 check-rows-requires c κs =
@@ -43,7 +43,7 @@ begun d = d .before .before .before .before
 add-u : tie.Need-add-u Inv-loop μ-loop
 add-u c =
     let d = begun c in
-    let f = d .before .before .before .before .before .before .pre .0 .few in
+    let f = d .before .before .before .before .before .before .pre .0 .vectors-bounded in
     let t = d .loop-test .taken in
     omega arith
 
@@ -67,10 +67,10 @@ check-later-spec =
     (tie.spec Inv-loop μ-loop
     (λ c κs. search needs)
     (λ c. (omega arith, left-no-later _ _ _ _ _, c .empty .ensures))
-    (λ c. let p = c .before .before .before .before .before .pre .0 in let f = p .few in let e = p .ends in let l = c .loop .inv .0 in omega arith)
-    (λ c. let p = c .before .before .before .before .before .before .pre .0 in let f = p .few in let t = c .loop-test .taken in omega arith)
-    (λ c. let m = low _ _ _ _ _ (c .before .before .before .before .before .before .pre .0) (c .loop-test .taken) in omega arith)
-    (λ c. let t = c .loop-test .taken in let m = low _ _ _ _ (c .before .loop .u) (c .before .before .before .before .before .before .pre .0) (omega arith) in omega arith)
+    (λ c. let p = c .before .before .before .before .before .pre .0 in let f = p .vectors-bounded in let e = p .ends in let l = c .loop .inv .0 in omega arith)
+    (λ c. let p = c .before .before .before .before .before .before .pre .0 in let f = p .vectors-bounded in let t = c .loop-test .taken in omega arith)
+    (λ c. let m = place-bounded _ _ _ _ _ (c .before .before .before .before .before .before .pre .0) (c .loop-test .taken) in omega arith)
+    (λ c. let t = c .loop-test .taken in let m = place-bounded _ _ _ _ (c .before .loop .u) (c .before .before .before .before .before .before .pre .0) (omega arith) in omega arith)
     check-rows-requires
     add-u
     (λ c. let t = begun c .loop-test .taken in omega arith)

@@ -5,7 +5,7 @@ use native.Mathlib.Nat.{suc-mul}
 use native.Mathlib.Numerals.{add-one}
 use native.Mathlib.Omega.{arith}
 use borrow.Author.Needs.{needs}
-use Rattle.readings.proofs.Sifting.{left-changing}
+use Rattle.readings.proofs.LeftLaws.{left-changing}
 use Rattle.readings.proofs.walk.check_next.Statement.{statement}
 use Rattle.readings.proofs.walk.check_next.Tie as tie
 

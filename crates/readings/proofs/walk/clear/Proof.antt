@@ -4,14 +4,15 @@ use mathlib.Core.Path.{_≡_, refl, _∙_, ap}
 use mathlib.Core.Bool.{Bool, cond}
 use native.Mathlib.Omega.{arith}
 use borrow.Author.Needs.{needs}
-use Rattle.rules.specs.Basics.{ceil, rowBytes}
-use Rattle.readings.specs.Readings.{seenAt, Mapped}
-use Rattle.readings.proofs.Mapping.{mapped-none, mapped-more, mapped-all}
+use Rattle.base.specs.Digits.{ceil}
+use Rattle.rules.specs.Rows.{rowBytes, rowBit}
+use Rattle.readings.specs.Readings.{Mapped}
+use Rattle.readings.proofs.MappedLaws.{mapped-none, mapped-more, mapped-all}
 use Rattle.readings.proofs.walk.clear.Statement.{statement}
 use Rattle.readings.proofs.walk.clear.Tie as tie
 
 abbrev Inv-loop : tie.InvT-loop
-Inv-loop cells left table₀ c₀ table c = (c ≤ cells) × Mapped (λ x entry. cond (seenAt left 0 x) entry 0) table₀ c table
+Inv-loop cells left table₀ c₀ table c = (c ≤ cells) × Mapped (λ x entry. cond (rowBit left 0 x) entry 0) table₀ c table
 
 abbrev μ-loop : tie.MeasureT-loop
 μ-loop cells left table₀ c₀ table c = cells - c

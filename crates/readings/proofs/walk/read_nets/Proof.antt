@@ -3,11 +3,12 @@ use Prim.Native.Nat.{ℕ, _*_, _≤_}
 use native.Mathlib.Omega.{arith}
 use borrow.Author.Needs.{needs}
 use lib.ListN.{length, length-replicate}
-use Rattle.rules.specs.Basics.{ceil, rowBytes}
+use Rattle.base.specs.Digits.{ceil}
+use Rattle.rules.specs.Rows.{rowBytes}
 use Rattle.rules.specs.Refusals.{mostBytes}
 use Rattle.readings.specs.Readings.{Captured}
-use Rattle.readings.proofs.Places.{rowed}
-use Rattle.readings.proofs.Mapping.{entries-below}
+use Rattle.readings.proofs.CapturePlaces.{rowed}
+use Rattle.readings.proofs.MappedLaws.{entries-below}
 use Rattle.readings.proofs.Decoding.{captured}
 use Rattle.readings.proofs.Naming.{own-lent, all-read}
 use Rattle.readings.proofs.walk.read_nets.Statement.{statement}
@@ -61,7 +62,7 @@ unfolding rowBytes ceil
 clear-requires c κs =
     let d = c .before .before .before in
     let o = owned d in
-    let f = entry (rows (codes o)) .pre .0 .few in
+    let f = entry (rows (codes o)) .pre .0 .cells-bounded in
     let e = d .check-all .ensures .long in
     (omega (arith, length-replicate {A = ℕ} mostBytes 255), omega (arith, long o, codes o .read-codes .ensures .long, o .own-codes .ensures .long))
 
@@ -76,7 +77,7 @@ pub read-nets-spec : {M : Type 1} → statement M
 read-nets-spec =
     tie.close
     (tie.spec
-    (λ c κs. let f = c .before .before .pre .0 .few in omega arith)
+    (λ c κs. let f = c .before .before .pre .0 .cells-bounded in omega arith)
     read-codes-requires
     own-codes-requires
     (λ c. search needs)

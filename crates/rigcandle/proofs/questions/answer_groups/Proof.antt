@@ -5,15 +5,15 @@ use mathlib.Core.List.{List}
 use native.Mathlib.Omega.{arith}
 use borrow.Author.Needs.{needs}
 use borrow.Author.Tests.{ltb-false}
-use Rattle.rules.specs.Basics.{rowBytes}
+use Rattle.rules.specs.Rows.{rowBytes}
 use Rattle.rules.specs.File.{cellsOf}
 use Rattle.rules.specs.Refusals.{judge, groupsChecks, mostCells}
 use Rattle.rules.proofs.Shape.{laid, shaped, one-block}
 use Rattle.rules.proofs.Verdicts.{passed}
 use Rattle.chains.proofs.Walks.{cells-fit}
-use Rattle.rows.proofs.Rowing.{place-low}
-use Rattle.rigcandle.proofs.Answering.{row-groups, groups-refused, groups-accepted, once-off, room-is}
-use Rattle.rigcandle.proofs.Bounds.{groups-few}
+use Rattle.rows.proofs.GroupRows.{place-low}
+use Rattle.rigcandle.proofs.AnswerLaws.{row-groups, groups-refused, groups-accepted, once-off, room-is}
+use Rattle.rigcandle.proofs.AdmittedLaws.{groups-few}
 use Rattle.rigcandle.proofs.questions.answer_groups.Statement.{statement}
 use Rattle.rigcandle.proofs.questions.answer_groups.Tie as tie
 
@@ -68,7 +68,7 @@ write-groups-requires c κs =
     record {
       ready = start p .pre .ready;
       cells-are = cells-are p;
-      few = groups-few _ _ (start p .pre .ready .accepted) (p .plan-of .ensures);
+      groups-bounded = groups-few _ _ (start p .pre .ready .accepted) (p .plan-of .ensures);
       long = rw (← o .before .before .row-bytes .ensures) room;
     }
 

@@ -5,7 +5,7 @@ use mathlib.Core.List.{List}
 use native.Mathlib.Omega.{arith}
 use borrow.Author.Needs.{needs}
 use borrow.Author.Tests.{ltb-false}
-use Rattle.rules.specs.Basics.{rowBytes}
+use Rattle.rules.specs.Rows.{rowBytes}
 use Rattle.rules.specs.File.{boardOf, cellsOf}
 use Rattle.rules.specs.Vectors.{totalOf}
 use Rattle.rules.specs.Refusals.{judge, boardChecks, marksChecks, mostCells}
@@ -13,11 +13,11 @@ use Rattle.rules.specs.declared.Verdict.the-variants.{Accepted}
 use Rattle.rules.proofs.Shape.{laid, shaped, one-block}
 use Rattle.rules.proofs.Verdicts.{passed, stopped}
 use Rattle.chains.proofs.Walks.{cells-fit}
-use Rattle.plan.proofs.Planned.{small-plan, total-is, board-accepted, whole-file}
-use Rattle.rows.proofs.Rowing.{place-low}
-use Rattle.rigcandle.proofs.Answering.{row-marks, row-capture, marks-refused, once-off, room-is, capture-is}
-use Rattle.rigcandle.proofs.Bounds.{vectors-low}
-use Rattle.rigcandle.proofs.Marking.{marks-are, captured, whole-capture, no-entries, readings-of, counts-low, marked-as}
+use Rattle.plan.proofs.PlanningLaws.{small-plan, total-is, board-accepted, whole-file}
+use Rattle.rows.proofs.GroupRows.{place-low}
+use Rattle.rigcandle.proofs.AnswerLaws.{row-marks, row-capture, marks-refused, once-off, room-is, capture-is}
+use Rattle.rigcandle.proofs.AdmittedLaws.{vectors-low}
+use Rattle.rigcandle.proofs.CaptureMarks.{marks-are, captured, whole-capture, no-entries, readings-of, counts-low, marked-as}
 use Rattle.rigcandle.proofs.questions.answer_marks.Statement.{statement}
 use Rattle.rigcandle.proofs.questions.answer_marks.Tie as tie
 

@@ -5,16 +5,16 @@ use mathlib.Core.List.{List}
 use native.Mathlib.Omega.{arith}
 use borrow.Author.Needs.{needs}
 use borrow.Author.Tests.{ltb-false, leb-false}
-use Rattle.rules.specs.Basics.{rowBytes}
+use Rattle.rules.specs.Rows.{rowBytes}
 use Rattle.rules.specs.File.{boardOf, cellsOf}
 use Rattle.rules.specs.Vectors.{totalOf}
 use Rattle.rules.specs.Refusals.{judge, vectorChecks, mostCells}
-use Rattle.rules.proofs.Rows.{vector-group}
+use Rattle.rules.proofs.VectorsDriven.{vector-group}
 use Rattle.rules.proofs.Shape.{laid, shaped, one-block}
 use Rattle.rules.proofs.Verdicts.{passed, stopped}
 use Rattle.chains.proofs.Walks.{cells-fit}
-use Rattle.plan.proofs.Planned.{small-plan, total-is, groups-low}
-use Rattle.rigcandle.proofs.Answering.{row-vector, row-number, vector-refused, vector-accepted, once-off, room-is, number-is}
+use Rattle.plan.proofs.PlanningLaws.{small-plan, total-is, groups-low}
+use Rattle.rigcandle.proofs.AnswerLaws.{row-vector, row-number, vector-refused, vector-accepted, once-off, room-is, number-is}
 use Rattle.rigcandle.proofs.questions.answer_vector.Statement.{statement}
 use Rattle.rigcandle.proofs.questions.answer_vector.Tie as tie
 

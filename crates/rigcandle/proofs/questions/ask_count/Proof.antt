@@ -5,9 +5,9 @@ use Rattle.rules.specs.File.{boardOf}
 use Rattle.rules.specs.Refusals.{judge, countChecks}
 use Rattle.rules.specs.declared.Verdict.the-variants.{Accepted}
 use Rattle.plan.specs.Planning.{PlanOf}
-use Rattle.plan.proofs.Planned.{small-plan, total-is, board-accepted}
-use Rattle.rigcandle.proofs.Answering.{count-accepted, count-refused}
-use Rattle.rigcandle.proofs.Bounds.{vectors-low, groups-few, wide-few}
+use Rattle.plan.proofs.PlanningLaws.{small-plan, total-is, board-accepted}
+use Rattle.rigcandle.proofs.AnswerLaws.{count-accepted, count-refused}
+use Rattle.rigcandle.proofs.AdmittedLaws.{vectors-low, groups-few, wide-few}
 use Rattle.rigcandle.proofs.questions.ask_count.Statement.{statement}
 use Rattle.rigcandle.proofs.questions.ask_count.Tie as tie
 

@@ -2,7 +2,7 @@
 use mathlib.Core.Path.{sym, _∙_}
 use borrow.Author.Needs.{needs}
 use Rattle.rules.proofs.Verdicts.{stopped}
-use Rattle.rigcandle.proofs.Answering.{row-groups, groups-refused}
+use Rattle.rigcandle.proofs.AnswerLaws.{row-groups, groups-refused}
 use Rattle.rigcandle.proofs.questions.ask_groups.Statement.{statement}
 use Rattle.rigcandle.proofs.questions.ask_groups.Tie as tie
 

@@ -2,7 +2,7 @@
 use mathlib.Core.Path.{refl, sym, _∙_}
 use borrow.Author.Needs.{needs}
 use Rattle.rules.proofs.Verdicts.{stopped}
-use Rattle.rigcandle.proofs.Answering.{row-marks, marks-refused}
+use Rattle.rigcandle.proofs.AnswerLaws.{row-marks, marks-refused}
 use Rattle.rigcandle.proofs.questions.ask_marks.Statement.{statement}
 use Rattle.rigcandle.proofs.questions.ask_marks.Tie as tie
 

@@ -2,7 +2,7 @@
 use mathlib.Core.Path.{sym, _∙_}
 use borrow.Author.Needs.{needs}
 use Rattle.rules.proofs.Verdicts.{stopped}
-use Rattle.rigcandle.proofs.Answering.{row-vector, vector-refused}
+use Rattle.rigcandle.proofs.AnswerLaws.{row-vector, vector-refused}
 use Rattle.rigcandle.proofs.questions.ask_vector.Statement.{statement}
 use Rattle.rigcandle.proofs.questions.ask_vector.Tie as tie
 

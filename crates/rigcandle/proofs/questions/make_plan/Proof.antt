@@ -4,7 +4,7 @@ use borrow.Author.Needs.{needs}
 use Rattle.rules.specs.Refusals.{judge, countChecks}
 use Rattle.rules.specs.declared.Verdict.the-variants as Verdict
 use Rattle.chains.proofs.TableLaws.{blank}
-use Rattle.rigcandle.proofs.Answering.{made-as, refused-as}
+use Rattle.rigcandle.proofs.AnswerLaws.{made-as, refused-as}
 use Rattle.rigcandle.proofs.questions.make_plan.Statement.{statement}
 use Rattle.rigcandle.proofs.questions.make_plan.Tie as tie
 

@@ -6,11 +6,11 @@ use native.Mathlib.Omega.{arith}
 use borrow.Author.Needs.{needs}
 use lib.Bits.{bitAnd, and-mask}
 use lib.ListN.{getD}
-use Rattle.rules.specs.Basics.{bit, word}
+use Rattle.base.specs.Digits.{bit, word}
+use Rattle.base.proofs.DigitLaws.{word-same, word-cut}
+use Rattle.base.proofs.WordLaws.{bit-shifted}
 use Rattle.rules.specs.File.{byteValues}
-use Rattle.rules.proofs.Digits.{word-same, word-cut}
 use Rattle.words.specs.Sets.{member}
-use Rattle.words.proofs.Words.{bit-shifted}
 use Rattle.rows.proofs.bytes.row_byte.Statement.{statement}
 use Rattle.rows.proofs.bytes.row_byte.Tie as tie
 

@@ -1,7 +1,8 @@
 -- `rows::bytes::row_bytes` meets its contract: the quotient is `ceil`.
 use mathlib.Core.Path.{refl}
 use borrow.Author.Needs.{needs}
-use Rattle.rules.specs.Basics.{ceil, rowBytes}
+use Rattle.base.specs.Digits.{ceil}
+use Rattle.rules.specs.Rows.{rowBytes}
 use Rattle.rows.proofs.bytes.row_bytes.Statement.{statement}
 use Rattle.rows.proofs.bytes.row_bytes.Tie as tie
 

@@ -11,11 +11,14 @@ use borrow.Author.Tests.{lt-ltb, le-ltb}
 use lib.Dec.{ltb}
 use lib.ListN.{length, getD, set, length-set}
 use lib.Seq.{paste, paste-zero, paste-suc, take-length}
-use Rattle.rules.specs.Basics.{ceil, word, rowBytes, rowByte, rowOf}
-use Rattle.rules.proofs.Tests.{order}
-use Rattle.rules.proofs.Digits.{word-same, table-at, row-length}
+use Rattle.base.specs.Digits.{ceil, word}
+use Rattle.base.proofs.BoolLaws.{order}
+use Rattle.base.proofs.DigitLaws.{word-same}
+use Rattle.base.proofs.ListLaws.{table-at}
+use Rattle.rules.specs.Rows.{rowBytes, rowByte, rowOf}
+use Rattle.rules.proofs.RowLaws.{row-length}
 use Rattle.words.specs.Sets.{cellWords, member}
-use Rattle.rows.specs.Rows.{placed, Cells}
+use Rattle.rows.specs.Room.{placed, Cells}
 use Rattle.rows.proofs.bytes.write_row.Statement.{statement}
 use Rattle.rows.proofs.bytes.write_row.Tie as tie
 
@@ -60,7 +63,7 @@ row-byte-requires : tie.Need-row-byte-requires Inv-loop μ-loop
 unfolding rowBytes ceil
 row-byte-requires c κs =
     let e : length (c .before .before .before .before .before .before .args .set .words) ≡ cellWords = search needs in
-    omega (arith, c .before .loop-test .taken, c .before .before .before .before .row-bytes .ensures, c .before .before .before .before .before .before .pre .0 .few)
+    omega (arith, c .before .loop-test .taken, c .before .before .before .before .row-bytes .ensures, c .before .before .before .before .before .before .pre .0 .cells-bounded)
 
 loop-again : tie.Need-loop-again Inv-loop μ-loop
 loop-again c =

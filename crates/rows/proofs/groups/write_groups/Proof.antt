@@ -10,7 +10,7 @@ write-rows-requires : tie.Need-write-rows-requires
 write-rows-requires c κs =
     let o = c .before .before in
     let p = start o .pre in
-    (record { ready = o .fill-order .ensures .ready; cells-are = p .cells-are; few = p .few; long = p .long }, o .fill-order .ensures)
+    (record { ready = o .fill-order .ensures .ready; cells-are = p .cells-are; groups-bounded = p .groups-bounded; long = p .long }, o .fill-order .ensures)
 
 pub write-groups-spec : {M : Type 1} → statement M
 write-groups-spec =

@@ -5,7 +5,7 @@ use native.Mathlib.Nat.{zero-mul, suc-mul}
 use native.Mathlib.Numerals.{add-one}
 use native.Mathlib.Omega.{arith}
 use borrow.Author.Needs.{needs}
-use Rattle.rules.specs.Basics.{rowBytes}
+use Rattle.rules.specs.Rows.{rowBytes}
 use Rattle.rules.specs.File.{boardOf}
 use Rattle.rules.specs.Groups as Groups
 use Rattle.rules.specs.Refusals.{mostCells}
@@ -13,7 +13,7 @@ use Rattle.words.specs.Sets.{member}
 use Rattle.chains.proofs.Walks.{cells-fit}
 use Rattle.select.specs.Turns.{listed}
 use Rattle.select.proofs.Passing.{earlier-none, board-size}
-use Rattle.rows.proofs.Rowing.{Written, written-none, written-all, written-next, on-next, earlier-next, on-own, row-fits, place-low}
+use Rattle.rows.proofs.GroupRows.{Written, written-none, written-all, written-next, on-next, earlier-next, on-own, row-fits, place-low}
 use Rattle.rows.proofs.groups.write_rows.Statement.{statement}
 use Rattle.rows.proofs.groups.write_rows.Tie as tie
 
@@ -58,7 +58,7 @@ write-row-requires c κs =
     let w = inv .4 .long in
     let r = row-fits _ _ _ _ _ _ (c .before .before .loop-test .taken) (inv .1) (p .long) (inv .2) in
     let s = small l in
-    (record { long = omega arith; few = omega arith }, on-own _ _ _ _ (p .ready .accepted) (p .cells-are) (on-next _ _ _ (c .before .selected .ensures _ (inv .3))))
+    (record { long = omega arith; cells-bounded = omega arith }, on-own _ _ _ _ (p .ready .accepted) (p .cells-are) (on-next _ _ _ (c .before .selected .ensures _ (inv .3))))
 
 -- the place where a group was selected, from where its row was written and joined
 abbrev chosen : tie.After-union Inv-loop μ-loop → tie.After-selected Inv-loop μ-loop
@@ -69,7 +69,7 @@ add-at c =
     let l = chosen c .before .before in
     let inv = l .loop .inv in
     let t = chosen c .before .loop-test .taken in
-    let few = start l .pre .0 .few in
+    let few = start l .pre .0 .groups-bounded in
     let s = small l in
     let r = place-low _ _ _ _ (omega arith) (omega arith) (inv .1) (inv .2) in
     omega arith
@@ -102,7 +102,7 @@ write-rows-spec =
     row-bytes-requires
     (λ c κs. search needs)
     loop-holds
-    (λ c. let p = start (c .before) .pre .0 .few in let t = c .loop-test .taken in omega arith)
+    (λ c. let p = start (c .before) .pre .0 .groups-bounded in let t = c .loop-test .taken in omega arith)
     (λ c κs. start (c .before) .pre .1)
     write-row-requires
     (λ c κs. search needs)

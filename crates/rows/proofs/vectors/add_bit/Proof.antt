@@ -9,16 +9,16 @@ use Rattle.rules.specs.File.{Board}
 use Rattle.rules.specs.declared.Cell.{Cell}
 use Rattle.rules.proofs.Shape.{laid, shaped}
 use Rattle.words.specs.Sets.{netWords, cellWords}
-use Rattle.words.proofs.Choosing.{plus-passes, plus-fails}
+use Rattle.words.proofs.SetLaws.{plus-passes, plus-fails}
 use Rattle.cells.specs.Whole.{Whole}
 use Rattle.rows.specs.Bits.{bitOf, bitAt, outNet}
-use Rattle.rows.proofs.Lit.{out-net-low}
+use Rattle.rows.proofs.BitLaws.{out-net-low}
 use Rattle.rows.proofs.vectors.add_bit.Statement.{statement}
 use Rattle.rows.proofs.vectors.add_bit.Tie as tie
 
 -- a position is a cell of a set of cells
 cell-low : (file : List ℕ) (c : ℕ) → Whole file c → c < 64 * cellWords
-cell-low file c p = let l = p .below in let f = laid _ (shaped _ (p .checked)) .cells .few in omega arith
+cell-low file c p = let l = p .below in let f = laid _ (shaped _ (p .checked)) .cells .at-most in omega arith
 
 cell-bit-requires : tie.Need-cell-bit-requires
 cell-bit-requires c κs =

@@ -6,8 +6,7 @@ use borrow.Author.Needs.{needs}
 use lib.ListN.{length}
 use Rattle.rules.specs.File.{boardOf}
 use Rattle.words.specs.Sets.{cellWords, member, plusIf, upTo}
-use Rattle.words.proofs.Choosing.{up-none, up-grown}
-use Rattle.words.proofs.Members.{member-zeros}
+use Rattle.words.proofs.SetLaws.{up-none, up-grown, member-zeros}
 use Rattle.rows.specs.Bits.{bitAt}
 use Rattle.rows.proofs.vectors.row_cells.Statement.{statement}
 use Rattle.rows.proofs.vectors.row_cells.Tie as tie

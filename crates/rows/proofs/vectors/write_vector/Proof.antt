@@ -4,14 +4,14 @@ use native.Mathlib.Omega.{arith}
 use borrow.Author.Needs.{needs}
 use Rattle.rules.specs.File.{boardOf}
 use Rattle.rules.specs.Vectors.{Vector, vectorAt}
-use Rattle.rules.proofs.Rows.{vector-group}
+use Rattle.rules.proofs.VectorsDriven.{vector-group}
 use Rattle.chains.proofs.Walks.{cells-fit}
 use Rattle.select.proofs.Passing.{board-size}
 use Rattle.plan.specs.Plans.{Small, Within}
-use Rattle.plan.proofs.Mixing.{steps-within}
-use Rattle.plan.proofs.Planned.{small-plan, total-is, vector-is}
-use Rattle.rows.specs.Rows.{Cells}
-use Rattle.rows.proofs.Lit.{own-cells, vector-written}
+use Rattle.plan.proofs.MixLaws.{steps-within}
+use Rattle.plan.proofs.PlanningLaws.{small-plan, total-is, vector-is}
+use Rattle.rows.specs.Room.{Cells}
+use Rattle.rows.proofs.BitLaws.{own-cells, vector-written}
 use Rattle.rows.proofs.vectors.write_vector.Statement.{statement}
 use Rattle.rows.proofs.vectors.write_vector.Tie as tie
 
@@ -47,7 +47,7 @@ write-row-requires c κs =
     let l = p .long in
     let e = p .cells-are in
     let f = cells-fit _ (p .ready .by-control .checked) in
-    (record { long = omega arith; few = omega arith }, subst (Cells _) (sym (r .row-cells .ensures)) (own-cells _ _))
+    (record { long = omega arith; cells-bounded = omega arith }, subst (Cells _) (sym (r .row-cells .ensures)) (own-cells _ _))
 
 returns : tie.Need-returns
 returns c =

@@ -1,6 +1,6 @@
 -- `words::CellSet::empty` meets its contract: a list of zeros has no member.
 use Rattle.words.specs.Sets.{cellWords}
-use Rattle.words.proofs.Members.{member-zeros}
+use Rattle.words.proofs.SetLaws.{member-zeros}
 use Rattle.words.proofs.CellSet.empty.Statement.{statement}
 use Rattle.words.proofs.CellSet.empty.Tie as tie
 

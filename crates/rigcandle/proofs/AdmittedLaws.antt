@@ -1,0 +1,30 @@
+-- The numbers of an admitted board are small.
+use Prim.Native.Nat.{ℕ, _≤_}
+use mathlib.Core.Path.{_≡_, _∙_}
+use mathlib.Core.List.{List}
+use native.Mathlib.Omega.{arith}
+use borrow.Author.Tests.{ltb-false}
+use lib.ListN.{length}
+use Rattle.rules.specs.File.{boardOf, mostNumber}
+use Rattle.rules.specs.Refusals.{judge, boardChecks, countChecks, mostVectors}
+use Rattle.rules.specs.Vectors.{stepsOf, totalOf}
+use Rattle.rules.specs.declared.Verdict.the-variants.{Accepted}
+use Rattle.rules.proofs.Verdicts.{all-pass, append-pass}
+use Rattle.plan.specs.declared.steps.Plan.{Plan}
+use Rattle.plan.specs.Plans.{basesFor}
+use Rattle.plan.specs.Planning.{PlanOf}
+use Rattle.plan.proofs.PlanningLaws.{small-plan, groups-low, total-is}
+
+pub total-low : (file : List ℕ) → judge (countChecks file) ≡ Accepted → totalOf (boardOf file) ≤ mostVectors
+unfolding countChecks
+total-low file ok =
+    ltb-false mostVectors (totalOf (boardOf file)) (append-pass (boardChecks file) _ (all-pass (countChecks file) ok) .1 .0 0 (omega arith))
+
+pub vectors-low : (file : List ℕ) (p : Plan) (t : ℕ) → judge (countChecks file) ≡ Accepted → PlanOf (boardOf file) p → t ≡ length (stepsOf (basesFor p)) → t ≤ mostNumber
+vectors-low file p t ok h e = let l = total-low file ok in omega (arith, e ∙ total-is (boardOf file) p h)
+
+pub groups-few : (file : List ℕ) (p : Plan) → judge (boardChecks file) ≡ Accepted → PlanOf (boardOf file) p → p .groups ≤ mostNumber
+groups-few file p ok h = let l = groups-low file ok in omega (arith, h .groups-are)
+
+pub wide-few : (file : List ℕ) (p : Plan) → judge (boardChecks file) ≡ Accepted → PlanOf (boardOf file) p → p .wide ≤ mostNumber
+wide-few file p ok h = let l = small-plan file ok p h .narrow in omega arith

@@ -1,0 +1,43 @@
+-- `words::loops::flip` meets its contract: the first j words hold the members of one and not the other, the others are as they were.
+use Prim.Native.Nat.{_-_}
+use mathlib.Core.Path.{ap₂}
+use mathlib.Core.Bool.{xor}
+use native.Mathlib.Omega.{arith}
+use borrow.Author.Needs.{needs}
+use lib.Bits.{bitXor}
+use lib.ListN.{length}
+use Rattle.base.proofs.WordLaws.{bit-xor}
+use Rattle.words.specs.Sets.{member, unlike}
+use Rattle.words.proofs.SetLaws.{combined-at, member-out, Written, written-none, written-more, written-all}
+use Rattle.words.proofs.loops.flip.Statement.{statement}
+use Rattle.words.proofs.loops.flip.Tie as tie
+
+abbrev Inv-loop : tie.InvT-loop
+Inv-loop into₀ from j₀ into j = Written (unlike (member into₀) (member from)) into₀ j into
+
+abbrev μ-loop : tie.MeasureT-loop
+μ-loop into₀ from j₀ into j = length into₀ - j
+
+loop-holds : tie.Need-loop-holds Inv-loop μ-loop
+loop-holds c = written-none _ _
+
+loop-again : tie.Need-loop-again Inv-loop μ-loop
+loop-again c =
+    let l = c .before .before .before .loop in
+    let a = c .before .before .before .before .args in
+    written-more _ _ (l .inv) (omega arith) _
+    (combined-at xor bitXor bit-xor (a .into .now) (a .from .now) (l .into) (l .j) (l .inv .rest (l .j) (omega arith)))
+
+returns : tie.Need-returns Inv-loop μ-loop
+unfolding xor
+returns c =
+    let a = c .before .before .args in
+    written-all _ _ (c .before .loop .inv) (omega arith)
+    (λ i h. ap₂ xor (member-out (a .into .now) h) (member-out (a .from .now) (omega arith)))
+
+pub flip-spec : {M : Type 1} → statement M
+flip-spec =
+    tie.close
+    (tie.spec Inv-loop μ-loop loop-holds
+    (λ c. search needs) (λ c. search needs) (λ c. search needs) (λ c. omega arith) (λ c. search needs) (λ c. omega arith) (λ c. omega arith) (λ c. omega arith)
+    loop-again (λ c. omega arith) returns)
