@@ -10,7 +10,7 @@ use borrow.Author.Tests.{eqb-true, eqb-false, eq-eqb, ne-eqb, lt-ltb, ltb-true}
 use lib.Dec.{eqb, ltb}
 use Rattle.base.specs.Tests.{any, seek}
 use Rattle.base.proofs.BoolLaws.{decided, left, right, both, or-left, not-fails, fails-not, clashes, fails-if, order, same-test}
-use Rattle.base.proofs.TestLaws.{any-at, any-member, none-any, seek-lowest, Searched}
+use Rattle.base.proofs.TestLaws.{any-at, any-member, none-any, seek-lowest}
 use Rattle.rules.specs.File.{Board, boardOf, cellsOf, netsOf, netOf}
 use Rattle.rules.specs.Drivers.{controlled, controlFor, isControl, onNet, driverOf, drives, drivers, meets, inside, crosses}
 use Rattle.rules.specs.Refusals.{judge, crossed, unequal, fileChecks}
@@ -26,7 +26,7 @@ use Rattle.chains.specs.Sharing.{partnersOf}
 use Rattle.chains.proofs.Chaining.{keyed-control}
 use Rattle.chains.proofs.Walks.{cell-fits, none-keyed}
 use Rattle.chains.proofs.Brought.{own-net}
-use Rattle.board.specs.Controls.{isCrossing, driversAt, anyOther, Idle}
+use Rattle.board.specs.Controls.{isCrossing, driversAt, anyOther}
 use Rattle.board.proofs.Crossings.{crossed-idle}
 
 -- crossing is: meeting, and neither inside the other
@@ -204,14 +204,7 @@ module _ (file : List ℕ) (ok : judge (fileChecks file) ≡ Accepted) (k : ℕ)
   unfolding boardOf
   unequal-empty none = sym (unequal-none (boardOf file) (known file ok) k none)
 
--- a search over control cells goes on past idle places: one that switches nothing does not fail
-pub past-idle : (places : ℕ) (fails : ℕ → Bool) (t : List ℕ) (k to : ℕ) → ((j : ℕ) → j < places → headIn ControlCell t j ≡ 0 → fails j ≡ false) → Searched places fails k → to ≤ places → Idle t k to → Searched places fails to
-past-idle places fails t k to idle s l v =
-    record {
-      inside = l;
-      lower = λ j m. ⊎-elim (λ (x : j < k). s .lower j x) (λ (x : k ≤ j). idle j (omega arith) (v .none j x m)) (order j k);
-    }
-
+-- a control cell that switches nothing
 module _ (file t : List ℕ) (ch : Chains file ControlCell t) (j : ℕ) (l : j < cellsOf file) (z : headIn ControlCell t j ≡ 0) where
   none : (c : ℕ) → c < cellsOf file → keyed (boardOf file) ControlCell j c ≡ false
   none = none-keyed file ControlCell t ch j (cell-fits file (ch .checked) j l) z

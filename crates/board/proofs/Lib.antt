@@ -4,4 +4,5 @@ pub mod NetChecks
 pub mod ControlChecks
 pub mod Crossings
 pub mod BearingLaws
+pub mod HeadLaws
 pub mod Order

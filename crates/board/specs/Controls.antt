@@ -1,15 +1,13 @@
 -- The control cells' checks over the tables that a whole file fills.
-use Prim.Native.Nat.{ℕ, _<_, _≤_}
-use mathlib.Core.Path.{_≡_}
+use Prim.Native.Nat.{ℕ}
 use mathlib.Core.Bool.{Bool, true, false, cond, not, _&&_}
-use mathlib.Core.List.{List}
 use lib.Dec.{eqb}
 use Rattle.base.specs.Tests.{any}
 use Rattle.rules.specs.File.{Board, netOf}
 use Rattle.rules.specs.Drivers.{controlled, drivers}
 use Rattle.words.specs.declared.Relation.{Relation}
 use Rattle.words.specs.declared.Relation.the-variants.{Apart, Inside, Holds, Equal, Crossing}
-use Rattle.chains.specs.Table.{ControlCell, headIn}
+use Rattle.chains.specs.Table.{ControlCell}
 use Rattle.chains.specs.Chains.{keyed}
 
 -- the one way that two net sets may not lie
@@ -19,11 +17,6 @@ isCrossing Inside = false
 isCrossing Holds = false
 isCrossing Equal = false
 isCrossing Crossing = true
-
--- no position from `from` on below `to` has a driver
-pub record Idle (t : List ℕ) (from to : ℕ) : Type 0 where
-  pub upward : from ≤ to
-  pub none : (k : ℕ) → from ≤ k → k < to → headIn ControlCell t k ≡ 0
 
 -- how many controlled drivers the net of the driver at c has
 unfoldable pub driversAt : Board → ℕ → ℕ

@@ -3,17 +3,17 @@
 ghost use mathlib.Core.Path.{_≡_};
 ghost use mathlib.Core.Bool.{true};
 ghost use mathlib.Core.List.{_∷_, []};
-ghost use Prim.Native.Nat.{_+_, _<_, _≤_, _*_};
+ghost use Prim.Native.Nat.{_<_, _*_};
 ghost use Rattle.rules.specs.File.{boardOf, cellsOf};
 ghost use Rattle.rules.specs.Drivers.{controlled};
-ghost use Rattle.rules.specs.Refusals.{judge, each, crossed, unequal, mostCells};
+ghost use Rattle.rules.specs.Refusals.{judge, each, crossed, unequal};
 ghost use Rattle.words.specs.Sets.{netWords, member, relationOf};
 ghost use Rattle.chains.specs.Table.{ControlCell};
 ghost use Rattle.chains.specs.Chains.{Chains};
 ghost use Rattle.chains.specs.Counts.{Counted};
 ghost use Rattle.chains.specs.Filling.{Filled};
-ghost use Rattle.board.specs.Controls.{isCrossing, driversAt, anyOther, Idle};
-use crate::nesting::nested_downward;
+ghost use Rattle.board.specs.Controls.{isCrossing, driversAt, anyOther};
+use crate::falling::nested_falling;
 use crate::nesting::nested_upward;
 use cells::net_at;
 use chains::TABLE;
@@ -42,13 +42,17 @@ fn crossing(a: NetSet, b: NetSet) -> bool
     }
 }
 
-// Control cell i crosses a higher one: each that shares a net with it is compared.
+// Control cell i crosses a higher one: each that shares a net with it is compared. One that switches
+// nothing crosses none.
 fn crosses(file: &[u8], table: &[u16; TABLE], cells: usize, i: Position) -> bool
     requires { ⌜ Filled (now file) (now table) ⌝ }
     requires { ⌜ cells ≡ cellsOf (now file) ⌝ }
     requires { ⌜ i .0 < cells ⌝ }
     ensures { λ r. ⌜ r ≡ crossed (boardOf (now (file .entry))) (i .0) ⌝ }
 {
+    if head(table, i) == 0 {
+        return false;
+    }
     let mine = nets_of(file, table, i);
     let met = partners(file, table, i);
     let mut j = met.next(i.0 as usize + 1);
@@ -61,47 +65,33 @@ fn crosses(file: &[u8], table: &[u16; TABLE], cells: usize, i: Position) -> bool
     false
 }
 
-// The lowest place from `from` on that has a driver, or `to`.
-fn driven_from(table: &[u16; TABLE], from: usize, to: usize) -> usize
-    requires { ⌜ (from ≤ to) × (to ≤ mostCells) ⌝ }
-    ensures { λ r. ⌜ (r ≤ to) × Idle (now (table .entry)) from r ⌝ }
-{
-    let mut k = from;
-    while k < to {
-        if head(table, Position(k as u16)) != 0 {
-            return k;
-        }
-        k += 1;
-    }
-    k
-}
-
 // The lowest control cell that crosses a higher one.
 fn lowest_crossed(file: &[u8], table: &[u16; TABLE], cells: usize) -> Verdict
     requires { ⌜ Filled (now file) (now table) ⌝ }
     requires { ⌜ cells ≡ cellsOf (now file) ⌝ }
     ensures { λ r. ⌜ r ≡ judge (each 10 (cellsOf (now (file .entry))) (crossed (boardOf (now (file .entry)))) ∷ []) ⌝ }
 {
-    let mut k = driven_from(table, 0, cells);
+    let mut k = 0;
     while k < cells {
         if crosses(file, table, cells, Position(k as u16)) {
             return rules::refuse(10, k);
         }
-        k = driven_from(table, k + 1, cells);
+        k += 1;
     }
     Verdict::Accepted
 }
 
-// Refusal 10: only where both quick tests fail is each pair looked at.
-pub(crate) fn crossed_verdict(file: &[u8], table: &[u16; TABLE], cells: usize) -> Verdict
+// Refusal 10: only where both quick tests fail is each pair looked at. The table is as good as before.
+pub(crate) fn crossed_verdict(file: &[u8], table: &mut [u16; TABLE], cells: usize) -> Verdict
     requires { ⌜ Filled (now file) (now table) ⌝ }
     requires { ⌜ cells ≡ cellsOf (now file) ⌝ }
+    ensures { λ r. ⌜ Filled (now (file .entry)) (now (table .exit)) ⌝ }
     ensures { λ r. ⌜ r ≡ judge (each 10 (cellsOf (now (file .entry))) (crossed (boardOf (now (file .entry)))) ∷ []) ⌝ }
 {
     if nested_upward(file, table, cells) {
         return Verdict::Accepted;
     }
-    if nested_downward(file, table, cells) {
+    if nested_falling(file, table, cells) {
         return Verdict::Accepted;
     }
     lowest_crossed(file, table, cells)
@@ -155,12 +145,12 @@ pub(crate) fn unequal_verdict(file: &[u8], table: &[u16; TABLE], cells: usize) -
     requires { ⌜ cells ≡ cellsOf (now file) ⌝ }
     ensures { λ r. ⌜ r ≡ judge (each 11 (cellsOf (now (file .entry))) (unequal (boardOf (now (file .entry)))) ∷ []) ⌝ }
 {
-    let mut k = driven_from(table, 0, cells);
+    let mut k = 0;
     while k < cells {
         if differ(file, table, Position(k as u16)) {
             return rules::refuse(11, k);
         }
-        k = driven_from(table, k + 1, cells);
+        k += 1;
     }
     Verdict::Accepted
 }

@@ -28,9 +28,10 @@ fn file_verdict(file: &[u8]) -> Verdict
 }
 
 // Refusals 10 and 11: the control cells.
-fn controls_verdict(file: &[u8], table: &[u16; TABLE], cells: usize) -> Verdict
+fn controls_verdict(file: &[u8], table: &mut [u16; TABLE], cells: usize) -> Verdict
     requires { ⌜ Filled (now file) (now table) ⌝ }
     requires { ⌜ cells ≡ cellsOf (now file) ⌝ }
+    ensures { λ r. ⌜ Filled (now (file .entry)) (now (table .exit)) ⌝ }
     ensures { λ r. ⌜ r ≡ judge (controlChecks (boardOf (now (file .entry)))) ⌝ }
 {
     let crossed = crossed_verdict(file, table, cells);

@@ -8,7 +8,8 @@ use native.Mathlib.Numerals.{add-one}
 use native.Mathlib.Omega.{arith}
 use borrow.Author.Tests.{eqb-true, eq-eqb}
 use lib.Dec.{eqb}
-use lib.ListN.{length, getD}
+use lib.ListN.{length, getD, set}
+use lib.Seq.{getD-set-same, getD-set-other}
 use Rattle.base.specs.Tests.{any}
 use Rattle.base.proofs.BoolLaws.{decided, fails-if, clashes, below-suc}
 use Rattle.rules.specs.File.{Board, boardOf, cellsOf, netOf, brokenAt}
@@ -145,6 +146,27 @@ module _ (b : Board) (by : By) (c : ℕ) (t : List ℕ) (so-far : Linked b by c 
           (λ (q : d ≡ c). let s = eqb-true x k (sym (keyed-c k) ∙ (rw q at h)) in rw (q, ← s) here)
           (λ (q : d < c). there d (λ (s : d ≡ c). omega arith) (omega arith) ∙ so-far .link d k q h)
           (below-suc l)
+
+-- the link of a cell with no key is free: any number no higher than the cell may stand there
+pub linked-free : (b : Board) (by : By) (n : ℕ) (t : List ℕ) (c v : ℕ) → keyAt b by c ≡ Nothing → c < mostCells → v ≤ c → linksFrom by + c < length t
+    → Linked b by n t → Linked b by n (set t (linksFrom by + c) v)
+unfolding keyed isKey
+linked-free b by n t c v e few low fits l =
+    record {
+      head = λ k m. getD-set-other t (linksFrom by + c) (linksFrom by + (mostCells + k)) v 0 (λ (s : linksFrom by + (mostCells + k) ≡ linksFrom by + c). omega arith) ∙ l .head k m;
+      link = λ d k m h. there d (λ (s : d ≡ c). false≢true (rw (s, e) at h)) ∙ l .link d k m h;
+      lower = lower-are;
+    }
+  where
+    there : (d : ℕ) → (d ≡ c → ⊥) → linkIn by (set t (linksFrom by + c) v) d ≡ linkIn by t d
+    there d p = getD-set-other t (linksFrom by + c) (linksFrom by + d) v 0 (λ (s : linksFrom by + d ≡ linksFrom by + c). p (omega arith))
+
+    lower-are : (d : ℕ) → d < mostCells → linkIn by (set t (linksFrom by + c) v) d ≤ d
+    lower-are d m =
+        ⊎-elim
+        (λ (q : eqb d c ≡ true). let s = eqb-true d c q in let h = getD-set-same t (linksFrom by + c) v 0 fits in rw s (omega arith))
+        (λ (q : eqb d c ≡ false). let h = there d (λ s. clashes (eq-eqb d c s) q) in let o = l .lower d m in omega arith)
+        (decided (eqb d c))
 
 -- a key of a whole file has a head
 pub key-below : (file : List ℕ) → judge (fileChecks file) ≡ Accepted → (by : By) (c x : ℕ) → c < cellsOf file → keyAt (boardOf file) by c ≡ Of x → x < room by

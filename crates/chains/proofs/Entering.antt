@@ -4,7 +4,7 @@ use Prim.Native.Nat.{ℕ, _+_, _<_, _≤_}
 use mathlib.Core.Path.{_≡_, refl, sym, _∙_}
 use mathlib.Core.List.{List}
 use native.Mathlib.Omega.{arith}
-use lib.ListN.{length, getD, set}
+use lib.ListN.{length, getD, set, length-set}
 use lib.Seq.{getD-set-other}
 use Rattle.base.specs.Counting.{count}
 use Rattle.rules.specs.File.{Board, boardOf, cellsOf}
@@ -20,10 +20,10 @@ use Rattle.rules.proofs.DriverLaws.{is-driver, no-driver}
 use Rattle.chains.specs.Table.{By, ControlCell, NetOf, linksFrom, room, countsFrom, spareFrom, tableSize, countIn, spliced, oneMore, Blank, Same}
 use Rattle.chains.specs.Chains.{keyAt, Grown}
 use Rattle.chains.specs.Counts.{Counted}
-use Rattle.chains.specs.Filling.{Entered}
+use Rattle.chains.specs.Filling.{Entered, Filled}
 use Rattle.chains.specs.declared.Key.the-variants.{Of, Nothing}
 use Rattle.chains.proofs.TableLaws.{spliced-long, spliced-apart, more-long, more-before}
-use Rattle.chains.proofs.Chaining.{linked-none, linked-same, linked-skip, linked-add, key-below}
+use Rattle.chains.proofs.Chaining.{linked-none, linked-same, linked-skip, linked-add, linked-free, key-below}
 use Rattle.chains.proofs.CountLaws.{counted-same, counted-skip, counted-add, counts-few}
 
 never : (x : ℕ) → Of x ≡ Nothing → ⊥
@@ -189,15 +189,35 @@ module _ (file : List ℕ) (c : ℕ) (t : List ℕ) (so-far : Entered file c t) 
           counted = counted-add file c both both-counts k n (driver-fits .1) both-long d;
         }
 
+-- one store leaves a part that it lies apart from
+stored-apart : (at v : ℕ) (t : List ℕ) (a z : ℕ) → ((j : ℕ) → a ≤ j → j < z → j ≡ at → ⊥) → Same a z t (set t at v)
+stored-apart at v t a z apart = record { entry = λ j p q. getD-set-other t at j v 0 (apart j p q) }
+
 -- what is kept in the spare room leaves the chains by control cell and the numbers of drivers
 module _ (i v : ℕ) (t : List ℕ) (l : i < mostCells) where
-  spare-apart : (a z : ℕ) → ((j : ℕ) → a ≤ j → j < z → j ≡ spareFrom + i → ⊥) → Same a z t (set t (spareFrom + i) v)
-  spare-apart a z apart = record { entry = λ j p q. getD-set-other t (spareFrom + i) j v 0 (apart j p q) }
-
   pub spare-control : (file : List ℕ) → Grown file ControlCell (cellsOf file) t → Grown file ControlCell (cellsOf file) (set t (spareFrom + i) v)
   spare-control file g =
-      grown-same file ControlCell (cellsOf file) t _ (omega arith) g (spare-apart _ _ (λ j p q (e : j ≡ spareFrom + i). omega arith))
+      grown-same file ControlCell (cellsOf file) t _ (omega arith) g (stored-apart _ v t _ _ (λ j p q (e : j ≡ spareFrom + i). omega arith))
 
   pub spare-counts : (file : List ℕ) → Counted file (cellsOf file) t → Counted file (cellsOf file) (set t (spareFrom + i) v)
   spare-counts file g =
-      counted-same file (cellsOf file) t _ (spare-apart _ _ (λ j p q (e : j ≡ spareFrom + i). omega arith)) g
+      counted-same file (cellsOf file) t _ (stored-apart _ v t _ _ (λ j p q (e : j ≡ spareFrom + i). omega arith)) g
+
+-- the link of a cell that drives nothing is free (linked-free), and lies apart from all else
+module _ (file t : List ℕ) (k v : ℕ) (h : Filled file t) (l : k < cellsOf file) where
+  free-few : k < mostCells
+  free-few = let f = laid file (shaped file (h .by-net .checked)) .cells .at-most in omega arith
+
+  pub filled-free : driverAt (boardOf file) k ≡ driver.Nothing → v ≤ k → Filled file (set t (linksFrom ControlCell + k) v)
+  filled-free d low =
+      let few = free-few in
+      let fits : linksFrom ControlCell + k < length t = (let q = h .long in omega arith) in
+      record {
+        long = length-set t (linksFrom ControlCell + k) v ∙ h .long;
+        by-control = record {
+          checked = h .by-control .checked;
+          linked = linked-free (boardOf file) ControlCell _ t k v (no-control _ _ d) few low fits (h .by-control .linked);
+        };
+        by-net = grown-same file NetOf _ t _ (omega arith) (h .by-net) (stored-apart _ v t _ _ (λ j p q (e : j ≡ linksFrom ControlCell + k). omega arith));
+        counted = counted-same file _ t _ (stored-apart _ v t _ _ (λ j p q (e : j ≡ linksFrom ControlCell + k). omega arith)) (h .counted);
+      }

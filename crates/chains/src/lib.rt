@@ -5,7 +5,7 @@ ghost use Prim.Native.Nat.{_+_, _-_, _<_, _≤_};
 ghost use lib.ListN.{getD, set};
 ghost use Rattle.rules.specs.File.{boardOf};
 ghost use Rattle.rules.specs.Refusals.{mostCells, mostNets};
-ghost use Rattle.chains.specs.Table.{ControlCell, NetOf, headIn, linkIn, countIn, spareIn, spareFrom, spliced, oneMore, tableSize};
+ghost use Rattle.chains.specs.Table.{ControlCell, NetOf, linksFrom, headIn, linkIn, countIn, spareIn, spareFrom, spliced, oneMore, tableSize};
 ghost use Rattle.chains.specs.Chains.{keyAt};
 ghost use Rattle.cells.specs.Whole.{Whole};
 use cells::cell_at;
@@ -95,6 +95,14 @@ pub fn set_spare(table: &mut [u16; TABLE], i: usize, c: Position)
     ensures { λ r. ⌜ now (table .exit) ≡ set (now (table .entry)) (spareFrom + i) (c .0) ⌝ }
 {
     table[NET_LINKS + i] = c.0;
+}
+
+// The link of a cell that drives nothing is free: `at` stands there from now on.
+pub fn set_free_link(table: &mut [u16; TABLE], c: Position, at: u16)
+    requires { ⌜ c .0 < mostCells ⌝ }
+    ensures { λ r. ⌜ now (table .exit) ≡ set (now (table .entry)) (linksFrom ControlCell + c .0) at ⌝ }
+{
+    table[LINKS + c.0 as usize] = at;
 }
 
 // How many controlled drivers net n has.

@@ -15,15 +15,19 @@ accepts : (places : ℕ) (fails : ℕ → Bool) → ((i : ℕ) → i < places �
 accepts places fails none = sym (ended 10 {i = places} (record { inside = omega arith; lower = none }) (omega arith))
 
 abbrev start : tie.After-nested-upward → tie.Start
-start c = c .before .before
+start c = c .before .before .before
+
+-- the place of the first test, from that of the second
+abbrev tried : tie.After-nested-falling → tie.After-nested-upward
+tried c = c .before .before .before
 
 pub crossed-verdict-spec : {M : Type 1} → statement M
 crossed-verdict-spec =
     tie.close
     (tie.spec
-    (λ c κs. let p = c .before .pre in (p .0 .by-control, p .1))
-    (λ c. accepts _ _ (c .before .nested-upward .ensures (c .if1 .taken)))
-    (λ c κs. let p = start (c .before) .pre in (p .0 .by-control, p .1))
-    (λ c. accepts _ _ (c .before .nested-downward .ensures (c .if2 .taken)))
-    (λ c κs. start (c .before .before .before) .pre)
-    (λ c. c .lowest-crossed .ensures))
+    (λ c κs. let p = c .before .before .pre in (p .0 .by-control, p .1))
+    (λ c. (start (c .before) .pre .0, accepts _ _ (c .before .nested-upward .ensures (c .if1 .taken))))
+    (λ c κs. start (c .before .before) .pre)
+    (λ c. let f = c .before in (f .nested-falling .ensures .0, accepts _ _ (f .nested-falling .ensures .1 (c .if2 .taken))))
+    (λ c κs. let f = c .before .before in (f .nested-falling .ensures .0, start (tried f) .pre .1))
+    (λ c. (c .before .before .before .nested-falling .ensures .0, c .lowest-crossed .ensures)))

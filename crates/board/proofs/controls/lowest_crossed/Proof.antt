@@ -1,14 +1,13 @@
--- The search for the lowest control cell that fails; one without a driver does not.
-use Prim.Native.Nat.{_-_}
-use mathlib.Core.Path.{sym, _∙_}
+-- The search for the lowest control cell that fails.
+use Prim.Native.Nat.{_-_, _<_, _≤_}
+use mathlib.Core.Path.{_≡_, sym, _∙_}
 use mathlib.Core.List.{[]}
 use native.Mathlib.Omega.{arith}
 use Rattle.base.proofs.TestLaws.{Searched, search-start, search-next}
 use Rattle.rules.specs.File.{boardOf, cellsOf}
-use Rattle.rules.specs.Refusals.{crossed}
+use Rattle.rules.specs.Refusals.{mostCells, crossed}
 use Rattle.rules.proofs.CheckLaws.{found, ended}
-use Rattle.chains.proofs.Walks.{cells-fit}
-use Rattle.board.proofs.ControlChecks.{past-idle, idle-uncrossed}
+use Rattle.chains.proofs.Walks.{cell-fits}
 use Rattle.board.proofs.controls.lowest_crossed.Statement.{statement}
 use Rattle.board.proofs.controls.lowest_crossed.Tie as tie
 
@@ -19,39 +18,30 @@ abbrev μ-loop : tie.MeasureT-loop
 μ-loop file table cells k₀ k = cells - k
 
 abbrev start : tie.At-loop Inv-loop μ-loop → tie.Start Inv-loop μ-loop
-start l = l .before .before .before
+start l = l .before .before
 
-driven-from-requires-2 : tie.Need-driven-from-requires-2 Inv-loop μ-loop
-driven-from-requires-2 c κs =
-    let p = start (c .before .before .before) .pre in
-    let e = p .1 in
-    let f = cells-fit _ (p .0 .by-control .checked) in
-    let t = c .before .before .loop-test .taken in
-    (omega arith, omega arith)
+-- inside the loop k is one of the file's cells
+here : (c : tie.In-loop Inv-loop μ-loop) → c .before .loop .k < cellsOf (start (c .before) .args .file .now)
+here c = let e = start (c .before) .pre .1 in let t = c .loop-test .taken in omega arith
+
+few : (c : tie.In-loop Inv-loop μ-loop) → c .before .loop .k < mostCells
+few c = cell-fits _ (start (c .before) .pre .0 .by-control .checked) _ (here c)
 
 returns : tie.Need-returns Inv-loop μ-loop
 returns c =
-    let l = c .before .before .before .before in
-    let e = start l .pre .1 in
-    let t = c .before .before .before .loop-test .taken in
-    c .refuse .ensures ∙ sym (found 10 [] (l .loop .inv) (omega arith) (sym (c .before .before .crosses .ensures) ∙ c .before .if1 .taken))
-
-loop-less : tie.Need-loop-less Inv-loop μ-loop
-loop-less c =
-    let up = c .driven-from2 .ensures .1 .upward in
-    let t = c .before .before .before .loop-test .taken in
-    omega arith
+    let x = c .before .before in
+    c .refuse .ensures ∙ sym (found 10 [] (x .before .before .loop .inv) (here (x .before)) (sym (x .crosses .ensures) ∙ c .before .if1 .taken))
 
 loop-again : tie.Need-loop-again Inv-loop μ-loop
 loop-again c =
-    let l = c .before .before .before .before in
-    let p = start l .pre in
-    let e = p .1 in
-    let t = c .before .before .before .loop-test .taken in
-    let d = c .driven-from2 .ensures in
-    let low = d .0 in
-    past-idle _ _ _ _ _ (idle-uncrossed _ _ (p .0 .by-control))
-    (search-next (l .loop .inv) (omega arith) (sym (c .before .before .crosses .ensures) ∙ c .before .if1 .left)) (omega arith) (d .1)
+    let x = c .before in
+    search-next (x .before .before .loop .inv) (here (x .before)) (sym (x .crosses .ensures) ∙ c .if1 .left)
+
+returns-2 : tie.Need-returns-2 Inv-loop μ-loop
+returns-2 c =
+    let e = start (c .before) .pre .1 in
+    let left = c .loop-test .left in
+    sym (ended 10 (c .before .loop .inv) (omega arith))
 
 pub lowest-crossed-spec : {M : Type 1} → statement M
 lowest-crossed-spec =
@@ -59,14 +49,12 @@ lowest-crossed-spec =
     (tie.spec
     Inv-loop
     μ-loop
-    (λ c κs. let p = c .before .pre in let e = p .1 in let f = cells-fit _ (p .0 .by-control .checked) in (omega arith, omega arith))
-    (λ c. let p = c .before .before .pre in let e = p .1 in let d = c .driven-from .ensures in let low = d .0 in past-idle _ _ _ _ _ (idle-uncrossed _ _ (p .0 .by-control)) (search-start _ _) (omega arith) (d .1))
-    (λ c. let p = start (c .before) .pre in let e = p .1 in let f = cells-fit _ (p .0 .by-control .checked) in let t = c .loop-test .taken in omega arith)
-    (λ c κs. let p = start (c .before) .pre in let e = p .1 in let t = c .loop-test .taken in (p .0, (p .1, t)))
-    (λ c κs. let p = start (c .before .before .before) .pre in let e = p .1 in let f = cells-fit _ (p .0 .by-control .checked) in let t = c .before .before .loop-test .taken in omega arith)
+    (λ c. search-start _ _)
+    (λ c. let f = few c in omega arith)
+    (λ c κs. let p = start (c .before) .pre in (p .0, (p .1, c .loop-test .taken)))
+    (λ c κs. let f = few (c .before .before) in omega arith)
     returns
-    (λ c. let p = start (c .before .before .before) .pre in let e = p .1 in let f = cells-fit _ (p .0 .by-control .checked) in let t = c .before .before .loop-test .taken in omega arith)
-    driven-from-requires-2
-    loop-less
+    (λ c. let f = few (c .before .before) in omega arith)
+    (λ c. let t = c .before .before .loop-test .taken in omega arith)
     loop-again
-    (λ c. let e = start (c .before) .pre .1 in let left = c .loop-test .left in sym (ended 10 (c .before .loop .inv) (omega arith))))
+    returns-2)

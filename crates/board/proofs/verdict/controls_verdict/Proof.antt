@@ -7,28 +7,30 @@ use Rattle.board.proofs.verdict.controls_verdict.Statement.{statement}
 use Rattle.board.proofs.verdict.controls_verdict.Tie as tie
 
 abbrev start : tie.After-crossed-verdict → tie.Start
-start c = c .before .before
+start c = c .before .before .before
 
 returns : tie.Need-returns
 unfolding boardOf
 returns c =
     let x = c .before .before in
-    stopped (row-crossed _) (x .crossed-verdict .ensures) (c .enum-told2 .given .1)
+    (x .crossed-verdict .ensures .0, stopped (row-crossed _) (x .crossed-verdict .ensures .1) (c .enum-told2 .given .1))
 
 returns-2 : tie.Need-returns-2
 unfolding boardOf
 returns-2 c =
-    let told = c .before in
-    let x = told .before .before in
-    passed (row-crossed _) (x .crossed-verdict .ensures) (told .enum-told .given .1) (c .unequal-verdict .ensures)
+    let told = c .before .before in
+    let x = told .before .before in (
+      x .crossed-verdict .ensures .0,
+      passed (row-crossed _) (x .crossed-verdict .ensures .1) (told .enum-told .given .1) (c .unequal-verdict .ensures),
+    )
 
 pub controls-verdict-spec : {M : Type 1} → statement M
 controls-verdict-spec =
     tie.close
     (tie.spec
-    (λ c κs. c .before .pre)
+    (λ c κs. c .before .before .pre)
     (λ c. search needs)
     (λ c. search needs)
     returns
-    (λ c κs. start (c .before .before) .pre)
+    (λ c κs. let x = c .before .before .before in (x .crossed-verdict .ensures .0, start x .pre .1))
     returns-2)

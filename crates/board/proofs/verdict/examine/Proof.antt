@@ -53,8 +53,8 @@ returns-3 c =
     let n = told .before .before in
     let a = accepted (sized (filled n)) in (
       passed (row-file _) (judged a .file-verdict .ensures) (a .enum-told .given .1)
-          (passed (row-nets _) (n .nets-verdict .ensures) (told .enum-told3 .given .1) (c .controls-verdict .ensures)),
-      λ b. filled n .fill-table .ensures,
+          (passed (row-nets _) (n .nets-verdict .ensures) (told .enum-told3 .given .1) (c .controls-verdict .ensures .1)),
+      λ b. c .controls-verdict .ensures .0,
     )
 
 pub examine-spec : {M : Type 1} → statement M
