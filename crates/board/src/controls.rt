@@ -103,7 +103,7 @@ fn drivers_at(file: &[u8], table: &[u16; TABLE], c: Position) -> usize
     requires { ⌜ (c .0 < cellsOf (now file)) × (controlled (boardOf (now file)) (c .0) ≡ true) ⌝ }
     ensures { λ r. ⌜ r ≡ driversAt (boardOf (now (file .entry))) (c .0) ⌝ }
 {
-    drivers_on(table, net_at(file, c.0 as usize))
+    drivers_on(table, net_at(file, c))
 }
 
 // A driver of control cell k is on a net with another number of drivers than `first`.

@@ -63,7 +63,7 @@ fn several_clash(file: &[u8], table: &[u16; TABLE], n: Net) -> bool
     let mut at = net_head(table, n);
     while 0 < at {
         let c = cell_named(at);
-        let driver = driver_at(file, c.0 as usize);
+        let driver = driver_at(file, c);
         let Driver::Of(k, _) = driver else {
             return true;
         };

@@ -34,30 +34,29 @@ const NEAR_PART: usize = NEAR_WHOLE / BLOCK_RECORDS + 1;
 // The block of cells of position p, counted from 0: p / BLOCK_RECORDS by one product, since every record read asks
 // for it. That little more brings no position below mostCells into the next block, and first brings 2,603 there:
 // the proof, which computes, fails for a mostCells above 2,603.
-fn block_of(p: usize) -> usize
-    requires { ⌜ p < mostCells ⌝ }
-    ensures { λ r. ⌜ r ≡ p / blockRecords ⌝ }
+fn block_of(p: Position) -> usize
+    requires { ⌜ p .0 < mostCells ⌝ }
+    ensures { λ r. ⌜ r ≡ p .0 / blockRecords ⌝ }
 {
-    p * NEAR_PART / NEAR_WHOLE
+    p.0 as usize * NEAR_PART / NEAR_WHOLE
 }
 
 // Where the record of position p begins: records follow each other, but for the spare bytes of the blocks between.
-fn record_start(p: usize) -> usize
-    requires { ⌜ p < mostCells ⌝ }
-    ensures { λ r. ⌜ r ≡ recordAt p ⌝ }
+fn record_start(p: Position) -> usize
+    requires { ⌜ p .0 < mostCells ⌝ }
+    ensures { λ r. ⌜ r ≡ recordAt (p .0) ⌝ }
 {
-    FIRST_RECORD + RECORD_SIZE * p + SPARE_BYTES * block_of(p)
+    FIRST_RECORD + RECORD_SIZE * p.0 as usize + SPARE_BYTES * block_of(p)
 }
 
 // k is the position of a kind 2 cell.
-fn of_kind_2(file: &[u8], cells: usize, k: u16) -> bool
+fn of_kind_2(file: &[u8], cells: usize, k: Position) -> bool
     requires { ⌜ Shaped (now file) ⌝ }
     requires { ⌜ cells ≡ cellsOf (now file) ⌝ }
-    ensures { λ r. ⌜ r ≡ ofKind2 (now (file .entry)) k ⌝ }
+    ensures { λ r. ⌜ r ≡ ofKind2 (now (file .entry)) (k .0) ⌝ }
 {
-    let p = k as usize;
-    if p < cells {
-        let at = record_start(p);
+    if (k.0 as usize) < cells {
+        let at = record_start(k);
         return file[at] == 2;
     }
     false
@@ -115,18 +114,18 @@ fn table(kind: u8, on: u8, control: u16, net: u16, switched: bool, connected: bo
 }
 
 // What the record at position p means.
-fn record_of(file: &[u8], cells: usize, nets: usize, p: usize) -> Record
+fn record_of(file: &[u8], cells: usize, nets: usize, p: Position) -> Record
     requires { ⌜ Shaped (now file) ⌝ }
     requires { ⌜ Sized (now file) cells nets ⌝ }
-    requires { ⌜ p < cells ⌝ }
-    ensures { λ r. ⌜ r ≡ recordOf (now (file .entry)) p ⌝ }
+    requires { ⌜ p .0 < cells ⌝ }
+    ensures { λ r. ⌜ r ≡ recordOf (now (file .entry)) (p .0) ⌝ }
 {
     let at = record_start(p);
     let kind = file[at];
     let on = file[at + 1];
     let control = blocks::pair(file, at + 2);
     let net = blocks::pair(file, at + 4);
-    let switched = of_kind_2(file, cells, control);
+    let switched = of_kind_2(file, cells, Position(control));
     let connected = (net as usize) < nets;
     table(kind, on, control, net, switched, connected)
 }
@@ -139,7 +138,7 @@ pub fn records_verdict(file: &[u8], cells: usize, nets: usize) -> Verdict
 {
     let mut p = 0;
     while p < cells {
-        let record = record_of(file, cells, nets, p);
+        let record = record_of(file, cells, nets, Position(p as u16));
         let Record::Means(_) = record else {
             return rules::refuse(6, p);
         };
@@ -150,9 +149,9 @@ pub fn records_verdict(file: &[u8], cells: usize, nets: usize) -> Verdict
 
 // What the record at position p of a whole file says: its kind alone tells which columns its cell holds,
 // since check 6 has looked at each of them.
-fn plain_record(file: &[u8], p: usize) -> Record
-    requires { ⌜ Whole (now file) p ⌝ }
-    ensures { λ r. ⌜ r ≡ recordOf (now (file .entry)) p ⌝ }
+fn plain_record(file: &[u8], p: Position) -> Record
+    requires { ⌜ Whole (now file) (p .0) ⌝ }
+    ensures { λ r. ⌜ r ≡ recordOf (now (file .entry)) (p .0) ⌝ }
 {
     let at = record_start(p);
     let kind = file[at];
@@ -170,9 +169,9 @@ fn plain_record(file: &[u8], p: usize) -> Record
 }
 
 // The cell at position p of a whole file: no record of it is broken.
-pub fn cell_at(file: &[u8], p: usize) -> Cell
-    requires { ⌜ Whole (now file) p ⌝ }
-    ensures { λ r. ⌜ r ≡ boardOf (now (file .entry)) .cell p ⌝ }
+pub fn cell_at(file: &[u8], p: Position) -> Cell
+    requires { ⌜ Whole (now file) (p .0) ⌝ }
+    ensures { λ r. ⌜ r ≡ boardOf (now (file .entry)) .cell (p .0) ⌝ }
 {
     let record = plain_record(file, p);
     let Record::Means(cell) = record else {
@@ -182,18 +181,18 @@ pub fn cell_at(file: &[u8], p: usize) -> Cell
 }
 
 // The net at position p of a whole file, or 65,535: what a walk along drivers needs of their records.
-pub fn net_at(file: &[u8], p: usize) -> Net
-    requires { ⌜ Whole (now file) p ⌝ }
-    ensures { λ r. ⌜ r .0 ≡ netOf (boardOf (now (file .entry)) .cell p) ⌝ }
+pub fn net_at(file: &[u8], p: Position) -> Net
+    requires { ⌜ Whole (now file) (p .0) ⌝ }
+    ensures { λ r. ⌜ r .0 ≡ netOf (boardOf (now (file .entry)) .cell (p .0)) ⌝ }
 {
     Net(blocks::pair(file, record_start(p) + 4))
 }
 
 // What the cell at position p of a whole file drives: the one place that knows which kinds of cells are
 // drivers, and of which control cell.
-pub fn driver_at(file: &[u8], p: usize) -> Driver
-    requires { ⌜ Whole (now file) p ⌝ }
-    ensures { λ r. ⌜ r ≡ driverAt (boardOf (now (file .entry))) p ⌝ }
+pub fn driver_at(file: &[u8], p: Position) -> Driver
+    requires { ⌜ Whole (now file) (p .0) ⌝ }
+    ensures { λ r. ⌜ r ≡ driverAt (boardOf (now (file .entry))) (p .0) ⌝ }
 {
     let cell = cell_at(file, p);
     match cell {

@@ -37,7 +37,7 @@ fn enter(file: &[u8], table: &mut [u16; TABLE], c: Position)
     requires { ⌜ c .0 < cellsOf (now file) ⌝ }
     ensures { λ r. ⌜ Entered (now (file .entry)) (c .0 + 1) (now (table .exit)) ⌝ }
 {
-    let driver = driver_at(file, c.0 as usize);
+    let driver = driver_at(file, c);
     let Driver::Of(k, n) = driver else {
         return enter_other(file, table, c);
     };

@@ -126,7 +126,7 @@ pub(crate) fn net_key(file: &[u8], c: Position) -> Key
     requires { ⌜ Whole (now file) (c .0) ⌝ }
     ensures { λ r. ⌜ r ≡ keyAt (boardOf (now (file .entry))) NetOf (c .0) ⌝ }
 {
-    let cell = cell_at(file, c.0 as usize);
+    let cell = cell_at(file, c);
     match cell {
         Cell::Internal => Key::Nothing,
         Cell::Input(_) => Key::Nothing,

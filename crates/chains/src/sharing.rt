@@ -34,7 +34,7 @@ pub fn nets_of(file: &[u8], table: &[u16; TABLE], k: Position) -> NetSet
     let mut at = head(table, k);
     while 0 < at {
         let c = cell_named(at);
-        let n = net_at(file, c.0 as usize);
+        let n = net_at(file, c);
         loops::add(&mut words, n.0 as usize);
         at = link(table, c);
     }
@@ -47,7 +47,7 @@ fn add_control(file: &[u8], c: Position, low: Position, set: CellSet) -> CellSet
     requires { ⌜ Whole (now file) (c .0) ⌝ }
     ensures { λ r. ⌜ member (r .words) ≡ withControl (boardOf (now (file .entry))) (low .0) (c .0) (member (set .words)) ⌝ }
 {
-    let driver = driver_at(file, c.0 as usize);
+    let driver = driver_at(file, c);
     let Driver::Of(k, _) = driver else {
         return set;
     };
@@ -85,7 +85,7 @@ fn add_sharers(
     requires { ⌜ c .0 < cellsOf (now file) ⌝ }
     ensures { λ r. ⌜ member (r .words) ≡ withSharers (boardOf (now (file .entry))) (low .0) (c .0) (member (met .words)) ⌝ }
 {
-    let driver = driver_at(file, c.0 as usize);
+    let driver = driver_at(file, c);
     let Driver::Of(_, n) = driver else {
         return met;
     };

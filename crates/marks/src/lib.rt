@@ -14,6 +14,7 @@ use cells::cell_at;
 use rules::Cell;
 use rules::Mark;
 use rules::Net;
+use rules::Position;
 use words::NetSet;
 
 // An input cell with the net that it is on, or something else.
@@ -62,17 +63,17 @@ fn with_read(set: NetSet, entry: u16) -> NetSet
 }
 
 // The tests as far as the cells below c go, with what the cell at c says besides.
-fn add_reading(file: &[u8], table: &[u16], c: usize, tests: Tests) -> Tests
+fn add_reading(file: &[u8], table: &[u16], c: Position, tests: Tests) -> Tests
     requires { ⌜ Readings (now file) (now table) ⌝ }
-    requires { ⌜ c < cellsOf (now file) ⌝ }
-    requires { ⌜ TestedBelow (boardOf (now file)) (now table) c tests ⌝ }
-    ensures { λ r. ⌜ TestedBelow (boardOf (now (file .entry))) (now (table .entry)) (c + 1) r ⌝ }
+    requires { ⌜ c .0 < cellsOf (now file) ⌝ }
+    requires { ⌜ TestedBelow (boardOf (now file)) (now table) (c .0) tests ⌝ }
+    ensures { λ r. ⌜ TestedBelow (boardOf (now (file .entry))) (now (table .entry)) (c .0 + 1) r ⌝ }
 {
     let reader = reader_of(cell_at(file, c));
     let Reader::Of(net) = reader else {
         return tests;
     };
-    let entry = table[c];
+    let entry = table[c.0 as usize];
     let seen = tests.seen.with(net);
     let failed = tests.failed;
     let twice = tests.twice;
@@ -115,7 +116,7 @@ pub(crate) fn collect(file: &[u8], table: &[u16], cells: usize) -> Tests
     let mut tests = untested();
     let mut c = 0;
     while c < cells {
-        tests = add_reading(file, table, c, tests);
+        tests = add_reading(file, table, Position(c as u16), tests);
         c += 1;
     }
     tests

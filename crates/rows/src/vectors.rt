@@ -53,13 +53,13 @@ fn cell_bit(cell: Cell, p: Position, on: CellSet, nets: NetSet) -> bool
 }
 
 // The cell at c joins the row, if its bit is 1.
-fn add_bit(file: &[u8], on: CellSet, nets: NetSet, c: usize, row: &mut [u64])
-    requires { ⌜ Whole (now file) c ⌝ }
+fn add_bit(file: &[u8], on: CellSet, nets: NetSet, c: Position, row: &mut [u64])
+    requires { ⌜ Whole (now file) (c .0) ⌝ }
     requires { ⌜ length (now row) ≡ cellWords ⌝ }
-    ensures { λ r. ⌜ member (now (row .exit)) ≡ plusIf (bitAt (boardOf (now (file .entry))) (member (on .words)) (member (nets .words))) c (member (now (row .entry))) ⌝ }
+    ensures { λ r. ⌜ member (now (row .exit)) ≡ plusIf (bitAt (boardOf (now (file .entry))) (member (on .words)) (member (nets .words))) (c .0) (member (now (row .entry))) ⌝ }
 {
-    if cell_bit(cell_at(file, c), Position(c as u16), on, nets) {
-        loops::add(row, c);
+    if cell_bit(cell_at(file, c), c, on, nets) {
+        loops::add(row, c.0 as usize);
     }
 }
 
@@ -72,7 +72,7 @@ fn row_cells(file: &[u8], cells: usize, on: CellSet, nets: NetSet) -> CellSet
     let mut words = [0u64; CELL_WORDS];
     let mut c = 0;
     while c < cells {
-        add_bit(file, on, nets, c, &mut words);
+        add_bit(file, on, nets, Position(c as u16), &mut words);
         c += 1;
     }
     CellSet { words }

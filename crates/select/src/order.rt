@@ -20,7 +20,7 @@ fn is_highest(file: &[u8], table: &[u16; TABLE], c: Position) -> bool
     requires { ⌜ c .0 < cellsOf (now file) ⌝ }
     ensures { λ r. ⌜ r ≡ highest (boardOf (now (file .entry))) (c .0) ⌝ }
 {
-    let driver = driver_at(file, c.0 as usize);
+    let driver = driver_at(file, c);
     let Driver::Of(k, _) = driver else {
         return false;
     };

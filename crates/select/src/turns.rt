@@ -83,7 +83,7 @@ fn turn(file: &[u8], table: &[u16; TABLE], rule: Rule, c: Position, state: Turne
     requires { ⌜ c .0 < cellsOf (now file) ⌝ }
     ensures { λ r. ⌜ Leads (boardOf (now (file .entry))) (turnBy (boardOf (now (file .entry))) rule (c .0)) state r ⌝ }
 {
-    let driver = driver_at(file, c.0 as usize);
+    let driver = driver_at(file, c);
     let Driver::Of(k, n) = driver else {
         return state;
     };

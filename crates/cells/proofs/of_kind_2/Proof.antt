@@ -4,6 +4,7 @@ use mathlib.Core.Path.{_≡_}
 use mathlib.Core.Bool.{false}
 use mathlib.Core.List.{List}
 use borrow.Author.Tests.{lt-ltb, le-ltb}
+use borrow.Author.Needs.{needs}
 use native.Mathlib.Omega.{arith}
 use lib.Dec.{eqb}
 use lib.ListN.{getD}
@@ -22,15 +23,16 @@ past file cells k e l = rw (← e, le-ltb k cells l)
 
 record-start-requires : tie.Need-record-start-requires
 record-start-requires c κs =
-    let pre = c .before .before .pre in
+    let s = c .before .before .before in
+    let pre = s .pre in
     let e = pre .1 in
     let l = c .if1 .taken in
-    let f = position-bounded _ (c .before .before .args .k) (pre .0) (omega arith) in
+    let f = position-bounded _ (s .args .k .0) (pre .0) (omega arith) in
     omega arith
 
 shared-slice-read-result : tie.Need-shared-slice-read-result
 shared-slice-read-result c =
-    let pre = c .before .before .before .before .pre in
+    let pre = c .before .before .before .before .before .pre in
     let e = pre .1 in
     let l = c .before .before .if1 .taken in
     let h = inside _ _ _ (pre .0) (omega arith) (c .before .record-start .ensures) in
@@ -38,10 +40,10 @@ shared-slice-read-result c =
 
 returns : tie.Need-returns
 returns c =
-    below _ _ _ _ (c .before .before .before .before .pre .1) (c .before .before .if1 .taken) (c .before .record-start .ensures)
+    below _ _ _ _ (c .before .before .before .before .before .pre .1) (c .before .before .if1 .taken) (c .before .record-start .ensures)
 
 returns-2 : tie.Need-returns-2
-returns-2 c = past _ _ _ (c .before .before .pre .1) (c .if1 .left)
+returns-2 c = past _ _ _ (c .before .before .before .pre .1) (c .if1 .left)
 
 pub of-kind-2-spec : {M : Type 1} → statement M
-of-kind-2-spec = tie.close (tie.spec record-start-requires shared-slice-read-result returns returns-2)
+of-kind-2-spec = tie.close (tie.spec (λ c. search needs) record-start-requires shared-slice-read-result returns returns-2)

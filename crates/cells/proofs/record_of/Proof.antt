@@ -28,7 +28,7 @@ record-start-requires c κs =
     let pre = c .before .pre in
     let e = pre .1 .0 .cells-are in
     let l = pre .1 .1 in
-    let f = position-bounded _ (c .before .args .p) (pre .0) (omega arith) in
+    let f = position-bounded _ (c .before .args .p .0) (pre .0) (omega arith) in
     omega arith
 
 at3 : tie.Need-shared-slice-read-on

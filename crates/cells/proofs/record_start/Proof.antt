@@ -11,4 +11,4 @@ returns c = let b = c .block-of .ensures in omega arith
 pub record-start-spec : {M : Type 1} → statement M
 record-start-spec =
     tie.close
-    (tie.spec (λ c. omega arith) (λ c. omega arith) (λ c κs. c .pre) (λ c. omega arith) (λ c. omega arith) returns)
+    (tie.spec (λ c. omega arith) (λ c. omega arith) (λ c. omega arith) (λ c κs. c .before .pre) (λ c. omega arith) (λ c. omega arith) returns)

@@ -1,11 +1,12 @@
 -- The search for the lowest broken record.
-use Prim.Native.Nat.{_-_}
+use Prim.Native.Nat.{_-_, _<_}
 use mathlib.Core.Path.{sym, _∙_}
 use mathlib.Core.List.{[]}
 use borrow.Author.Needs.{needs}
 use native.Mathlib.Omega.{arith}
 use Rattle.base.proofs.TestLaws.{Searched, search-start, search-next}
 use Rattle.rules.specs.File.{cellsOf, brokenAt}
+use Rattle.rules.specs.Refusals.{mostCells}
 use Rattle.rules.proofs.CheckLaws.{found, ended}
 use Rattle.cells.proofs.WholeLaws.{position-bounded}
 use Rattle.cells.proofs.records_verdict.Statement.{statement}
@@ -17,38 +18,61 @@ Inv-loop file cells nets p₀ p = Searched (cellsOf file) (brokenAt file) p
 abbrev μ-loop : tie.MeasureT-loop
 μ-loop file cells nets p₀ p = cells - p
 
-record-of-requires : tie.Need-record-of-requires Inv-loop μ-loop
-record-of-requires c κs = let p = c .before .before .before .pre in (p .0, (p .1, c .loop-test .taken))
+abbrev start : tie.At-loop Inv-loop μ-loop → tie.Start Inv-loop μ-loop
+start l = l .before .before
 
-refuse-requires : tie.Need-refuse-requires Inv-loop μ-loop
-refuse-requires c κs =
-    let pre = c .before .before .before .before .before .before .pre in
-    let e = pre .1 .cells-are in
-    let l = c .before .before .before .loop-test .taken in
-    let f = position-bounded _ (c .before .before .before .before .loop .p) (pre .0) (omega arith) in
+-- in the loop p is one of the file's positions
+one : (i : tie.In-loop Inv-loop μ-loop) → i .before .loop .p < cellsOf (start (i .before) .args .file .now)
+one i =
+    let e = start (i .before) .pre .1 .cells-are in
+    let l = i .loop-test .taken in
     omega arith
+
+few : (i : tie.In-loop Inv-loop μ-loop) → i .before .loop .p < mostCells
+few i = position-bounded _ _ (start (i .before) .pre .0) (one i)
+
+-- where the record was looked at
+abbrev looked : tie.After-record-of Inv-loop μ-loop → tie.In-loop Inv-loop μ-loop
+looked d = d .before
+
+record-of-requires : tie.Need-record-of-requires Inv-loop μ-loop
+record-of-requires c κs = let p = start (c .before) .pre in (p .0, (p .1, c .loop-test .taken))
 
 returns : tie.Need-returns Inv-loop μ-loop
 unfolding brokenAt
 returns c =
-    let e = c .before .before .before .before .before .before .before .pre .1 .cells-are in
-    let l = c .before .before .before .before .loop-test .taken in
-    c .refuse .ensures ∙ sym (found 6 [] (c .before .before .before .before .before .loop .inv) (omega arith) (rw (← c .before .before .before .record-of .ensures, c .before .enum-told2 .given .1)))
+    let d = c .before .before .before in
+    let i = looked d in
+    c .refuse .ensures
+    ∙ sym (found 6 [] (i .before .loop .inv) (one i) (rw (← d .record-of .ensures, c .before .enum-told2 .given .1)))
 
 loop-again : tie.Need-loop-again Inv-loop μ-loop
 unfolding brokenAt
 loop-again c =
-    let e = c .before .before .before .before .before .before .pre .1 .cells-are in
-    let l = c .before .before .before .loop-test .taken in
-    search-next (c .before .before .before .before .loop .inv) (omega arith) (rw (← c .before .before .record-of .ensures, c .enum-told .given .1))
+    let d = c .before .before in
+    let i = looked d in
+    search-next (i .before .loop .inv) (one i) (rw (← d .record-of .ensures, c .enum-told .given .1))
 
 returns-2 : tie.Need-returns-2 Inv-loop μ-loop
 returns-2 c =
-    let e = c .before .before .before .pre .1 .cells-are in
+    let e = start (c .before) .pre .1 .cells-are in
     let left = c .loop-test .left in
     sym (ended 6 (c .before .loop .inv) (omega arith))
 
 pub records-verdict-spec : {M : Type 1} → statement M
 records-verdict-spec =
     tie.close
-    (tie.spec Inv-loop μ-loop (λ c. search-start _ _) record-of-requires (λ c. search needs) (λ c. search needs) refuse-requires returns (λ c. omega arith) (λ c. omega arith) loop-again returns-2)
+    (tie.spec
+    Inv-loop
+    μ-loop
+    (λ c. search-start _ _)
+    (λ c. let f = few c in omega arith)
+    record-of-requires
+    (λ c. search needs)
+    (λ c. search needs)
+    (λ c κs. let f = few (looked (c .before .before)) in omega arith)
+    returns
+    (λ c. omega arith)
+    (λ c. omega arith)
+    loop-again
+    returns-2)

@@ -3,7 +3,6 @@ use Prim.Native.Nat.{ℕ, _<_}
 use mathlib.Core.Path.{_≡_, _∙_}
 use mathlib.Core.Bool.{true}
 use mathlib.Core.List.{List}
-use borrow.Author.Needs.{needs}
 use native.Mathlib.Omega.{arith}
 use Rattle.base.proofs.BoolLaws.{or-left}
 use Rattle.rules.specs.File.{boardOf, cellsOf, netOf}
@@ -33,7 +32,6 @@ pub drivers-at-spec : {M : Type 1} → statement M
 drivers-at-spec =
     tie.close
     (tie.spec
-    (λ c. search needs)
-    (λ c κs. let p = c .before .before .pre in record { checked = p .0 .checked; below = p .1 .0 })
-    (λ c κs. let p = c .before .before .before .pre in in-table _ _ _ _ (p .0) (p .1 .0) (p .1 .1) (c .net-at .ensures))
-    (λ c. let p = c .before .before .before .before .pre in counted _ _ _ _ (p .0) (p .1 .0) (p .1 .1) (c .before .net-at .ensures) _ (c .drivers-on .ensures)))
+    (λ c κs. let p = c .before .pre in record { checked = p .0 .checked; below = p .1 .0 })
+    (λ c κs. let p = c .before .before .pre in in-table _ _ _ _ (p .0) (p .1 .0) (p .1 .1) (c .net-at .ensures))
+    (λ c. let p = c .before .before .before .pre in counted _ _ _ _ (p .0) (p .1 .0) (p .1 .1) (c .before .net-at .ensures) _ (c .drivers-on .ensures)))

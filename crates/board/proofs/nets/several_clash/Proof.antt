@@ -48,7 +48,7 @@ here c =
 
 -- the place where the cell was named, from where its driver was asked for or told
 abbrev named : tie.After-driver-at Inv-loop μ-loop → tie.After-cell-named Inv-loop μ-loop
-named c = c .before .before
+named c = c .before
 
 abbrev asked : tie.After-known-told Inv-loop μ-loop → tie.After-driver-at Inv-loop μ-loop
 asked c = c .before .before .before
@@ -125,8 +125,7 @@ several-clash-spec =
     (λ c κs. let p = c .before .pre in net-fits _ (p .0 .checked) _ (p .1 .0))
     (λ c. (λ n few e. meeting-start _ _ (c .before .before .pre .0) _ few _ e _ (λ k. ap (λ (f : ℕ → Bool). f k) (member-zeros cellWords)), refl))
     (λ c κs. let u = meeting-under _ _ _ _ (walk (c .before)) in let f = cells-fit _ (start (c .before) .pre .0 .checked) in (c .loop-test .taken, omega arith))
-    (λ c. search needs)
-    (λ c κs. let n = c .before in record { checked = start (n .before .before) .pre .0 .checked; below = here n })
+    (λ c κs. record { checked = start (c .before .before) .pre .0 .checked; below = here c })
     (λ c. search needs)
     (λ c. search needs)
     returns

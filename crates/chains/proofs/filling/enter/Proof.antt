@@ -12,7 +12,7 @@ use Rattle.chains.proofs.filling.enter.Tie as tie
 
 -- the places on the way: the driver was asked for, one was told, it was linked by its net, and by its control cell
 abbrev entry : tie.After-driver-at → tie.Start
-entry c = c .before .before .before
+entry c = c .before .before
 
 abbrev asked : tie.After-known-told → tie.After-driver-at
 asked c = c .before .before .before
@@ -68,8 +68,7 @@ pub enter-spec : {M : Type 1} → statement M
 enter-spec =
     tie.close
     (tie.spec
-    (λ c. search needs)
-    (λ c κs. let p = c .before .before .pre in record { checked = p .0 .by-net .checked; below = p .1 })
+    (λ c κs. let p = c .before .pre in record { checked = p .0 .by-net .checked; below = p .1 })
     (λ c. search needs)
     (λ c. search needs)
     enter-other-requires

@@ -11,7 +11,7 @@ use Rattle.chains.proofs.sharing.add_control.Statement.{statement}
 use Rattle.chains.proofs.sharing.add_control.Tie as tie
 
 abbrev entry : tie.After-driver-at → tie.Start
-entry c = c .before .before .before
+entry c = c .before .before
 
 abbrev asked : tie.After-known-told → tie.After-driver-at
 asked c = c .before .before .before
@@ -40,8 +40,7 @@ pub add-control-spec : {M : Type 1} → statement M
 add-control-spec =
     tie.close
     (tie.spec
-    (λ c. search needs)
-    (λ c κs. c .before .before .pre)
+    (λ c κs. c .before .pre)
     (λ c. search needs)
     (λ c. search needs)
     returns

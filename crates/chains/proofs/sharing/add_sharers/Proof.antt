@@ -10,7 +10,7 @@ use Rattle.chains.proofs.sharing.add_sharers.Statement.{statement}
 use Rattle.chains.proofs.sharing.add_sharers.Tie as tie
 
 abbrev entry : tie.After-driver-at → tie.Start
-entry c = c .before .before .before
+entry c = c .before .before
 
 abbrev asked : tie.After-known-told → tie.After-driver-at
 asked c = c .before .before .before
@@ -28,8 +28,7 @@ pub add-sharers-spec : {M : Type 1} → statement M
 add-sharers-spec =
     tie.close
     (tie.spec
-    (λ c. search needs)
-    (λ c κs. let p = c .before .before .pre in record { checked = p .0 .checked; below = p .1 })
+    (λ c κs. let p = c .before .pre in record { checked = p .0 .checked; below = p .1 })
     (λ c. search needs)
     (λ c. search needs)
     (λ c. no-sharers _ _ _ (driver-is _ _ _ (c .before .before .driver-at .ensures) (c .enum-told .given .1)) _)

@@ -57,7 +57,7 @@ loop-holds c =
 
 -- the place where the cell was named, from where its net was read
 abbrev named : tie.After-net-at Inv-loop μ-loop → tie.After-cell-named Inv-loop μ-loop
-named c = c .before .before
+named c = c .before
 
 add-requires : tie.Need-add-requires Inv-loop μ-loop
 add-requires c κs =
@@ -105,8 +105,7 @@ nets-of-spec =
     (λ c κs. let p = c .before .pre in cell-fits _ (p .0 .checked) _ (p .1))
     loop-holds
     (λ c κs. let u = walk (c .before) .under in let f = cells-fit _ (start (c .before) .pre .0 .checked) in (c .loop-test .taken, omega arith))
-    (λ c. search needs)
-    (λ c κs. let n = c .before in record { checked = start (n .before .before) .pre .0 .checked; below = here n })
+    (λ c κs. record { checked = start (c .before .before) .pre .0 .checked; below = here c })
     (λ c. sym (named (c .before) .before .before .loop .inv .1))
     (λ c. search needs)
     add-requires

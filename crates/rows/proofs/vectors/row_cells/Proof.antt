@@ -7,6 +7,7 @@ use lib.ListN.{length}
 use Rattle.rules.specs.File.{boardOf}
 use Rattle.words.specs.Sets.{cellWords, member, plusIf, upTo}
 use Rattle.words.proofs.SetLaws.{up-none, up-grown, member-zeros}
+use Rattle.chains.proofs.Walks.{cells-fit}
 use Rattle.rows.specs.Bits.{bitAt}
 use Rattle.rows.proofs.vectors.row_cells.Statement.{statement}
 use Rattle.rows.proofs.vectors.row_cells.Tie as tie
@@ -43,6 +44,7 @@ row-cells-spec =
     tie.close
     (tie.spec Inv-loop μ-loop
     (λ c. (omega arith, member-zeros cellWords ∙ up-none _, refl))
+    (λ c. let p = c .before .before .before .pre in let e = p .1 in let f = cells-fit _ (p .0) in let t = c .loop-test .taken in omega arith)
     (λ c. sym (c .before .before .loop .inv .2))
     add-bit-requires
     (λ c. omega (arith, c .before .before .before .loop-test .taken))

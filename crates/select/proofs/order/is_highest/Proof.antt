@@ -12,7 +12,7 @@ use Rattle.select.proofs.order.is_highest.Statement.{statement}
 use Rattle.select.proofs.order.is_highest.Tie as tie
 
 abbrev entry : tie.After-driver-at → tie.Start
-entry c = c .before .before .before
+entry c = c .before .before
 
 abbrev asked : tie.After-known-told → tie.After-driver-at
 asked c = c .before .before .before
@@ -46,8 +46,7 @@ pub is-highest-spec : {M : Type 1} → statement M
 is-highest-spec =
     tie.close
     (tie.spec
-    (λ c. search needs)
-    (λ c κs. let p = c .before .before .pre in record { checked = p .0 .checked; below = p .1 })
+    (λ c κs. let p = c .before .pre in record { checked = p .0 .checked; below = p .1 })
     (λ c. search needs)
     (λ c. search needs)
     returns

@@ -13,7 +13,7 @@ use Rattle.select.proofs.turns.turn.Tie as tie
 
 -- the places on the way: the driver was asked for, one was told; whether its net is wanted, its control cell allowed, its net covered
 abbrev entry : tie.After-driver-at → tie.Start
-entry c = c .before .before .before
+entry c = c .before .before
 
 abbrev asked : tie.After-known-told → tie.After-driver-at
 asked c = c .before .before .before
@@ -89,8 +89,7 @@ pub turn-spec : {M : Type 1} → statement M
 turn-spec =
     tie.close
     (tie.spec
-    (λ c. search needs)
-    (λ c κs. let p = c .before .before .pre in record { checked = p .0 .by-control .checked; below = p .1 })
+    (λ c κs. let p = c .before .pre in record { checked = p .0 .by-control .checked; below = p .1 })
     (λ c. search needs)
     (λ c. search needs)
     returns
