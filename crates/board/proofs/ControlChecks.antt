@@ -13,7 +13,7 @@ use Rattle.base.proofs.BoolLaws.{decided, left, right, both, or-left, not-fails
 use Rattle.base.proofs.TestLaws.{any-at, any-member, none-any, seek-lowest}
 use Rattle.rules.specs.File.{Board, boardOf, cellsOf, netsOf, netOf}
 use Rattle.rules.specs.Drivers.{controlled, controlFor, isControl, onNet, driverOf, drives, drivers, meets, inside, crosses}
-use Rattle.rules.specs.Refusals.{judge, crossed, unequal, fileChecks}
+use Rattle.rules.specs.Refusals.{judge, crossed, unequal, fileChecks, mostNets}
 use Rattle.rules.specs.declared.Verdict.the-variants.{Accepted}
 use Rattle.rules.proofs.NetSetLaws.{drives-driver, meets-net}
 use Rattle.rules.proofs.Shape.{laid, shaped, whole-records}
@@ -55,6 +55,9 @@ module _ (file : List ℕ) (ok : judge (fileChecks file) ≡ Accepted) where
       let c = drives-driver (boardOf file) k n h in
       let e = eqb-true (netOf (boardOf file .cell (c .0))) n (left (onNet (boardOf file) n (c .0)) _ (c .2)) in
       rw e at (kept-net file (whole-records file ok) (c .0) (c .1) (or-left _ (right (onNet (boardOf file) n (c .0)) (c .2))))
+
+  pub drives-few : (k n : ℕ) → drives (boardOf file) k n ≡ true → n < mostNets
+  drives-few k n h = let l = drives-low k n h in let f = laid file (shaped file ok) .nets .at-most in omega arith
 
   drives-control : (k n : ℕ) → drives (boardOf file) k n ≡ true → isControl (boardOf file) k ≡ true
   unfolding driverOf boardOf

@@ -5,4 +5,5 @@ pub mod ControlChecks
 pub mod Crossings
 pub mod BearingLaws
 pub mod HeadLaws
+pub mod LevelLaws
 pub mod Order

@@ -1,9 +1,13 @@
 -- The order of the checks: the file's, and then the nets' and the control cells', each row as its first check and then the rest.
 use Prim.Native.Nat.{ℕ}
+use mathlib.Core.Path.{_≡_, sym, _∙_}
 use mathlib.Core.List.{List, [], _∷_, _++_, append-assoc}
 use Rattle.rules.specs.File.{Board, boardOf, cellsOf, brokenAt}
 use Rattle.rules.specs.Refusals.{judge, each, crossed, unequal, shapeChecks, fileChecks, netChecks, controlChecks, earlyChecks, boardChecks}
+use Rattle.rules.specs.declared.Verdict.the-variants.{Accepted}
+use Rattle.rules.proofs.CheckLaws.{none-fails}
 use Rattle.rules.proofs.Verdicts.{Then, then-append}
+use Rattle.board.specs.Bearing.{Sound}
 
 module _ (file : List ℕ) where
   -- the file's checks: its shape, then its records
@@ -25,3 +29,8 @@ module _ (b : Board) where
   pub row-crossed : Then (judge (each 10 (b .size) (crossed b) ∷ [])) (judge (each 11 (b .size) (unequal b) ∷ [])) (judge (controlChecks b))
   unfolding controlChecks
   row-crossed = then-append (each 10 (b .size) (crossed b) ∷ []) (each 11 (b .size) (unequal b) ∷ [])
+
+  -- a sound board passes both
+  pub sound-accepted : Sound b → Accepted ≡ judge (controlChecks b)
+  unfolding controlChecks judge
+  sound-accepted s = sym (none-fails 10 (each 11 (b .size) (unequal b) ∷ []) (s .uncrossed) ∙ none-fails 11 [] (s .equal))

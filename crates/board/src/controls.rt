@@ -6,7 +6,7 @@ ghost use mathlib.Core.List.{_∷_, []};
 ghost use Prim.Native.Nat.{_<_, _*_};
 ghost use Rattle.rules.specs.File.{boardOf, cellsOf};
 ghost use Rattle.rules.specs.Drivers.{controlled};
-ghost use Rattle.rules.specs.Refusals.{judge, each, crossed, unequal};
+ghost use Rattle.rules.specs.Refusals.{judge, each, crossed, unequal, controlChecks};
 ghost use Rattle.words.specs.Sets.{netWords, member, relationOf};
 ghost use Rattle.chains.specs.Table.{ControlCell};
 ghost use Rattle.chains.specs.Chains.{Chains};
@@ -14,7 +14,7 @@ ghost use Rattle.chains.specs.Counts.{Counted};
 ghost use Rattle.chains.specs.Filling.{Filled};
 ghost use Rattle.board.specs.Controls.{isCrossing, driversAt, anyOther};
 use crate::falling::nested_falling;
-use crate::nesting::nested_upward;
+use crate::nesting::sound_upward;
 use cells::net_at;
 use chains::TABLE;
 use chains::cell_named;
@@ -81,16 +81,13 @@ fn lowest_crossed(file: &[u8], table: &[u16; TABLE], cells: usize) -> Verdict
     Verdict::Accepted
 }
 
-// Refusal 10: only where both quick tests fail is each pair looked at. The table is as good as before.
-pub(crate) fn crossed_verdict(file: &[u8], table: &mut [u16; TABLE], cells: usize) -> Verdict
+// Refusal 10: only where the quick test fails is each pair looked at. The table is as good as before.
+fn crossed_verdict(file: &[u8], table: &mut [u16; TABLE], cells: usize) -> Verdict
     requires { ⌜ Filled (now file) (now table) ⌝ }
     requires { ⌜ cells ≡ cellsOf (now file) ⌝ }
     ensures { λ r. ⌜ Filled (now (file .entry)) (now (table .exit)) ⌝ }
     ensures { λ r. ⌜ r ≡ judge (each 10 (cellsOf (now (file .entry))) (crossed (boardOf (now (file .entry)))) ∷ []) ⌝ }
 {
-    if nested_upward(file, table, cells) {
-        return Verdict::Accepted;
-    }
     if nested_falling(file, table, cells) {
         return Verdict::Accepted;
     }
@@ -140,7 +137,7 @@ fn differ(file: &[u8], table: &[u16; TABLE], k: Position) -> bool
 }
 
 // Refusal 11: the lowest control cell whose nets differ in number of controlled drivers.
-pub(crate) fn unequal_verdict(file: &[u8], table: &[u16; TABLE], cells: usize) -> Verdict
+fn unequal_verdict(file: &[u8], table: &[u16; TABLE], cells: usize) -> Verdict
     requires { ⌜ Filled (now file) (now table) ⌝ }
     requires { ⌜ cells ≡ cellsOf (now file) ⌝ }
     ensures { λ r. ⌜ r ≡ judge (each 11 (cellsOf (now (file .entry))) (unequal (boardOf (now (file .entry)))) ∷ []) ⌝ }
@@ -153,4 +150,21 @@ pub(crate) fn unequal_verdict(file: &[u8], table: &[u16; TABLE], cells: usize) -
         k += 1;
     }
     Verdict::Accepted
+}
+
+// Refusals 10 and 11: one walk tells of both on most boards; else one after the other.
+pub(crate) fn controls_verdict(file: &[u8], table: &mut [u16; TABLE], cells: usize) -> Verdict
+    requires { ⌜ Filled (now file) (now table) ⌝ }
+    requires { ⌜ cells ≡ cellsOf (now file) ⌝ }
+    ensures { λ r. ⌜ Filled (now (file .entry)) (now (table .exit)) ⌝ }
+    ensures { λ r. ⌜ r ≡ judge (controlChecks (boardOf (now (file .entry)))) ⌝ }
+{
+    if sound_upward(file, table, cells) {
+        return Verdict::Accepted;
+    }
+    let crossed = crossed_verdict(file, table, cells);
+    let Verdict::Accepted = crossed else {
+        return crossed;
+    };
+    unequal_verdict(file, table, cells)
 }

@@ -1,12 +1,10 @@
 // The verdict on a board file: refusals 1 to 11, in their order.
 ghost use mathlib.Core.Path.{_≡_};
-ghost use Rattle.rules.specs.File.{boardOf, cellsOf};
-ghost use Rattle.rules.specs.Refusals.{judge, fileChecks, controlChecks, boardChecks};
+ghost use Rattle.rules.specs.Refusals.{judge, fileChecks, boardChecks};
 ghost use Rattle.rules.specs.declared.Verdict.the-variants.{Accepted};
 ghost use Rattle.chains.specs.Table.{Blank};
 ghost use Rattle.chains.specs.Filling.{Filled};
-use crate::controls::crossed_verdict;
-use crate::controls::unequal_verdict;
+use crate::controls::controls_verdict;
 use crate::nets::nets_verdict;
 use blocks::read_sizes;
 use blocks::shape_verdict;
@@ -25,20 +23,6 @@ fn file_verdict(file: &[u8]) -> Verdict
     };
     let sizes = read_sizes(file);
     records_verdict(file, sizes.cells, sizes.nets)
-}
-
-// Refusals 10 and 11: the control cells.
-fn controls_verdict(file: &[u8], table: &mut [u16; TABLE], cells: usize) -> Verdict
-    requires { ⌜ Filled (now file) (now table) ⌝ }
-    requires { ⌜ cells ≡ cellsOf (now file) ⌝ }
-    ensures { λ r. ⌜ Filled (now (file .entry)) (now (table .exit)) ⌝ }
-    ensures { λ r. ⌜ r ≡ judge (controlChecks (boardOf (now (file .entry)))) ⌝ }
-{
-    let crossed = crossed_verdict(file, table, cells);
-    let Verdict::Accepted = crossed else {
-        return crossed;
-    };
-    unequal_verdict(file, table, cells)
 }
 
 // Refusals 1 to 11, with the chains and numbers of an accepted board left in the lent table, which holds
