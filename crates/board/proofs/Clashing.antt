@@ -2,7 +2,7 @@
 -- cell clash; where neither is met, none do.
 use Prim.Native.Nat.{ℕ, _-_, _<_, _≤_}
 use mathlib.Core.Path.{_≡_, refl, sym, _∙_, ap}
-use mathlib.Core.Logic.{_⊎_, ⊎-elim}
+use mathlib.Core.Logic.{_⊎_, inl, inr, ⊎-elim}
 use mathlib.Core.Bool.{Bool, true, false, not, _&&_, _||_}
 use mathlib.Core.List.{List}
 use native.Mathlib.Omega.{arith}
@@ -33,6 +33,16 @@ pub record Met (b : Board) (n at : ℕ) (met : ℕ → Bool) : Type 0 where
   pub bringers : (k : ℕ) → met k ≡ true → (c : ℕ) × (at ≤ c) × (c < b .size) × (outputOf b n c ≡ true) × (controlled b c ≡ true) × (controlFor b c ≡ k)
   pub apart : (c d : ℕ) → at ≤ d → d < c → c < b .size → outputOf b n c ≡ true → outputOf b n d ≡ true → controlFor b c ≡ controlFor b d → ⊥
 
+-- why two outputs c and d of a net clash: the first is always on, or both are drivers of one control cell
+abbrev Why : Board → ℕ → ℕ → Type 0
+Why b c d = (alwaysOn b c ≡ true) ⊎ ((controlled b c ≡ true) × (controlled b d ≡ true) × (controlFor b c ≡ controlFor b d))
+
+record Clash (b : Board) (n c d : ℕ) : Type 0 where
+  two : c ≡ d → ⊥
+  first : outputOf b n c ≡ true
+  second : outputOf b n d ≡ true
+  why : Why b c d
+
 module _ (b : Board) (n : ℕ) where
   -- what the walk passes from a head or link on: no output lies between
   none-between : (from c : ℕ) → last from (keyed b NetOf n) ≤ c → c < from → outputOf b n c ≡ true → ⊥
@@ -45,15 +55,43 @@ module _ (b : Board) (n : ℕ) where
       ⊎-elim (λ k. absurd (clashes k (no-driver b c e))) (λ a. a) (or-cases (controlled b c) (right (onNet b n c) o))
 
   -- two outputs that clash
-  clash-at : (c d : ℕ) → c < b .size → d < b .size → clash b n c d ≡ true → clashing b n ≡ true
-  unfolding clashing
-  clash-at c d l m t = any-at _ _ l (any-at _ _ m t)
+  clash-at : (c d : ℕ) → c < b .size → d < b .size → Clash b n c d → true ≡ clashing b n
+  unfolding clashing clash
+  clash-at c d l m k = sym (any-at _ _ l (any-at _ _ m (both (both (both (not-fails (ne-eqb c d (k .two))) (k .first)) (k .second)) (cause (k .why)))))
+    where
+      cause : Why b c d → (alwaysOn b c || (controlled b c && controlled b d && eqb (controlFor b c) (controlFor b d))) ≡ true
+      cause (inl a) = or-left _ a
+      cause (inr s) = or-right (alwaysOn b c) (both (both (s .0) (s .1)) (eq-eqb _ _ (s .2)))
+
+  -- no two clash
+  no-clash : ((c d : ℕ) → c < b .size → d < b .size → Clash b n c d → ⊥) → clashing b n ≡ false
+  unfolding clashing clash
+  no-clash none = none-any _ _ (λ c l. none-any _ _ (λ d m. fails-if _ (λ t. none c d l m (parts c d t))))
+    where
+      cause : (c d : ℕ) → (alwaysOn b c || (controlled b c && controlled b d && eqb (controlFor b c) (controlFor b d))) ≡ true → Why b c d
+      cause c d t =
+          ⊎-elim
+          (λ (a : alwaysOn b c ≡ true). inl a)
+          (λ (k : (controlled b c && controlled b d && eqb (controlFor b c) (controlFor b d)) ≡ true).
+          let two = left (controlled b c && controlled b d) _ k in
+          inr (left (controlled b c) _ two, right (controlled b c) two, eqb-true _ _ (right (controlled b c && controlled b d) k)))
+          (or-cases (alwaysOn b c) t)
+
+      parts : (c d : ℕ) → clash b n c d ≡ true → Clash b n c d
+      parts c d t =
+          let t3 = left (not (eqb c d) && outputOf b n c && outputOf b n d) _ t in
+          let t2 = left (not (eqb c d) && outputOf b n c) _ t3 in
+          record {
+            two = eqb-false c d (fails-not _ (left (not (eqb c d)) _ t2));
+            first = right (not (eqb c d)) t2;
+            second = right (not (eqb c d) && outputOf b n c) t3;
+            why = cause c d (right (not (eqb c d) && outputOf b n c && outputOf b n d) t);
+          }
 
   pub always-clashes : (c : ℕ) → Several b n → c < b .size → outputOf b n c ≡ true → driverAt b c ≡ Nothing → true ≡ clashing b n
-  unfolding clash
   always-clashes c several l o e =
       let d = several .another c in
-      sym (clash-at c (d .0) l (d .1) (both (both (both (not-fails (ne-eqb c (d .0) (d .3))) o) (d .2)) (or-left _ (on-else c o e))))
+      clash-at c (d .0) l (d .1) (record { two = d .3; first = o; second = d .2; why = inl (on-else c o e) })
 
   -- nothing is met yet
   met-none : (met : ℕ → Bool) → ((k : ℕ) → met k ≡ false) → Met b n (last (b .size) (keyed b NetOf n)) met
@@ -76,12 +114,17 @@ module _ (b : Board) (n : ℕ) where
 
       -- its control cell is met again
       again-clashes : met (k .0) ≡ true → true ≡ clashing b n
-      unfolding clash
       again-clashes t =
           let c = w .bringers (k .0) t in
           let u = w .under in
           let up = c .1 in
-          sym (clash-at (c .0) (at - 1) (c .2) (omega arith) (both (both (both (not-fails (ne-eqb (c .0) (at - 1) (λ q. omega arith))) (c .3)) met-on) (or-right (alwaysOn b (c .0)) (both (both (c .4) (is-driver b (at - 1) k m e .0)) (eq-eqb _ _ (c .5 ∙ sym own))))))
+          clash-at (c .0) (at - 1) (c .2) (omega arith)
+          (record {
+            two = λ q. omega arith;
+            first = c .3;
+            second = met-on;
+            why = inr (c .4, is-driver b (at - 1) k m e .0, c .5 ∙ sym own);
+          })
 
       -- or it is new
       met-next : (more : ℕ → Bool) → met (k .0) ≡ false → more ≡ plus met (k .0) → Met b n (last (at - 1) (keyed b NetOf n)) more
@@ -130,34 +173,21 @@ module _ (b : Board) (n : ℕ) where
 
   -- all are passed
   met-ended : (met : ℕ → Bool) → Met b n 0 met → clashing b n ≡ false
-  unfolding clashing clash
-  met-ended met w = none-any _ _ (λ c l. none-any _ _ (λ d m. fails-if _ (pair c d l m)))
+  met-ended met w = no-clash pair
     where
-      pair : (c d : ℕ) → c < b .size → d < b .size → (not (eqb c d) && outputOf b n c && outputOf b n d && (alwaysOn b c || (controlled b c && controlled b d && eqb (controlFor b c) (controlFor b d)))) ≡ true → ⊥
-      pair c d l m t =
-          let t3 = left (not (eqb c d) && outputOf b n c && outputOf b n d) (alwaysOn b c || (controlled b c && controlled b d && eqb (controlFor b c) (controlFor b d))) t in
-          let why = right (not (eqb c d) && outputOf b n c && outputOf b n d) t in
-          let u = right (not (eqb c d) && outputOf b n c) t3 in
-          let t2 = left (not (eqb c d) && outputOf b n c) _ t3 in
-          let o = right (not (eqb c d)) t2 in
-          let differ = eqb-false c d (fails-not _ (left (not (eqb c d)) _ t2)) in
-          ⊎-elim
-          (λ (a : alwaysOn b c ≡ true). kinds-differ b c c a (w .drivers c (omega arith) l o .0) refl)
-          (λ (k : (controlled b c && controlled b d && eqb (controlFor b c) (controlFor b d)) ≡ true). let same = eqb-true (controlFor b c) (controlFor b d) (right (controlled b c && controlled b d) k) in ⊎-elim
-          (λ (q : c < d). w .apart d c (omega arith) q m u o (sym same))
-          (λ (q : d ≤ c). ⊎-elim (λ (r : d < c). w .apart c d (omega arith) r l o u same) (λ (r : c ≤ d). differ (omega arith)) (order d c))
-          (order c d))
-          (or-cases (alwaysOn b c) why)
+      pair : (c d : ℕ) → c < b .size → d < b .size → Clash b n c d → ⊥
+      pair c d l m k = go (k .why)
+        where
+          go : Why b c d → ⊥
+          go (inl a) = kinds-differ b c c a (w .drivers c (omega arith) l (k .first) .0) refl
+          go (inr s) =
+              ⊎-elim
+              (λ (q : c < d). w .apart d c (omega arith) q m (k .second) (k .first) (sym (s .2)))
+              (λ (q : d ≤ c). ⊎-elim (λ (r : d < c). w .apart c d (omega arith) r l (k .first) (k .second) (s .2)) (λ (r : c ≤ d). k .two (omega arith)) (order d c))
+              (order c d)
 
   pub alone-clear : Alone b n → false ≡ clashing b n
-  unfolding clashing clash
-  alone-clear a = sym (none-any _ _ (λ c l. none-any _ _ (λ d m. fails-if _ (pair c d l m))))
-    where
-      pair : (c d : ℕ) → c < b .size → d < b .size → (not (eqb c d) && outputOf b n c && outputOf b n d && (alwaysOn b c || (controlled b c && controlled b d && eqb (controlFor b c) (controlFor b d)))) ≡ true → ⊥
-      pair c d l m t =
-          let t3 = left (not (eqb c d) && outputOf b n c && outputOf b n d) _ t in
-          let t2 = left (not (eqb c d) && outputOf b n c) _ t3 in
-          eqb-false _ _ (fails-not _ (left (not (eqb c d)) _ t2)) (a .only c d l m (right (not (eqb c d)) t2) (right (not (eqb c d) && outputOf b n c) t3))
+  alone-clear a = sym (no-clash (λ c d l m k. k .two (a .only c d l m (k .first) (k .second))))
 
 pub meeting-under : (file : List ℕ) (n at : ℕ) (met : ℕ → Bool) → Met (boardOf file) n at met → at ≤ cellsOf file
 unfolding boardOf
@@ -175,10 +205,12 @@ module _ (file t : List ℕ) (chains : Chains file NetOf t) (n : ℕ) where
   pub meeting-on : (at cell : ℕ) (met : ℕ → Bool) → Meeting at met → 0 < at → cell ≡ at - 1 → outputOf (boardOf file) n cell ≡ true
   meeting-on at cell met w some e = rw e (met-on (boardOf file) n at met w some)
 
-  pub meeting-again : (at cell : ℕ) (met : ℕ → Bool) → Meeting at met → 0 < at → cell ≡ at - 1 → (k : Position) (m : Net) → driverAt (boardOf file) cell ≡ Of k m → met (k .0) ≡ true → true ≡ clashing (boardOf file) n
+  pub meeting-again : (at cell : ℕ) (met : ℕ → Bool) → Meeting at met → 0 < at → cell ≡ at - 1 → (k : Position) (m : Net) → driverAt (boardOf file) cell ≡ Of k m
+      → met (k .0) ≡ true → true ≡ clashing (boardOf file) n
   meeting-again at cell met w some e k m d t = again-clashes (boardOf file) n at met w some k m (ap (driverAt (boardOf file)) (sym e) ∙ d) t
 
-  pub meeting-next : (at cell next : ℕ) (met more : ℕ → Bool) → Meeting at met → 0 < at → cell ≡ at - 1 → (k : Position) (m : Net) → driverAt (boardOf file) cell ≡ Of k m → met (k .0) ≡ false → more ≡ plus met (k .0) → next ≡ linkIn NetOf t cell → Meeting next more
+  pub meeting-next : (at cell next : ℕ) (met more : ℕ → Bool) → Meeting at met → 0 < at → cell ≡ at - 1 → (k : Position) (m : Net) → driverAt (boardOf file) cell ≡ Of k m
+      → met (k .0) ≡ false → more ≡ plus met (k .0) → next ≡ linkIn NetOf t cell → Meeting next more
   unfolding boardOf
   meeting-next at cell next met more w some e k m d new grown f =
       let u = w .under in

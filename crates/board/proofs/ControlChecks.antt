@@ -10,7 +10,7 @@ use borrow.Author.Tests.{eqb-true, eqb-false, eq-eqb, ne-eqb, lt-ltb, ltb-true}
 use lib.Dec.{eqb, ltb}
 use Rattle.base.specs.Tests.{any, seek}
 use Rattle.base.proofs.BoolLaws.{decided, left, right, both, or-left, not-fails, fails-not, clashes, fails-if, order, same-test}
-use Rattle.base.proofs.TestLaws.{any-at, any-member, none-any, seek-lowest}
+use Rattle.base.proofs.TestLaws.{any-at, any-member, none-any, Lowest, seek-lowest}
 use Rattle.rules.specs.File.{Board, boardOf, cellsOf, netsOf, netOf}
 use Rattle.rules.specs.Drivers.{controlled, controlFor, isControl, onNet, driverOf, drives, drivers, meets, inside, crosses}
 use Rattle.rules.specs.Refusals.{judge, crossed, unequal, fileChecks, mostNets}
@@ -27,7 +27,7 @@ use Rattle.chains.proofs.Chaining.{keyed-control}
 use Rattle.chains.proofs.Walks.{cell-fits, none-keyed}
 use Rattle.chains.proofs.Brought.{own-net}
 use Rattle.board.specs.Controls.{isCrossing, driversAt, anyOther}
-use Rattle.board.proofs.Crossings.{crossed-idle}
+use Rattle.board.proofs.Crossings.{parts, crossing-of, crossed-idle}
 
 -- crossing is: meeting, and neither inside the other
 crossing-by : (x y z : Bool) → isCrossing (relationBy x y z) ≡ (z && not x && not y)
@@ -41,6 +41,10 @@ crossing-by false true false = refl
 crossing-by false false true = refl
 crossing-by false false false = refl
 
+-- a driver's net and its control cell are known to the board
+abbrev pub Known : Board → Type 0
+Known b = (c : ℕ) → c < b .size → controlled b c ≡ true → (netOf (b .cell c) < b .nets) × (isControl b (controlFor b c) ≡ true)
+
 -- a search over i's partners from i + 1 on: none up to j crosses i
 pub record Uncrossed (b : Board) (i j : ℕ) : Type 0 where
   pub higher : i < j
@@ -48,84 +52,109 @@ pub record Uncrossed (b : Board) (i j : ℕ) : Type 0 where
   pub none : (x : ℕ) → i < x → x < j → crosses b i x ≡ false
 
 module _ (file : List ℕ) (ok : judge (fileChecks file) ≡ Accepted) where
+  abbrev board : Board
+  board = boardOf file
+
   -- a control cell's nets are on the board, and it is a control cell
-  drives-low : (k n : ℕ) → drives (boardOf file) k n ≡ true → n < netsOf file
+  drives-low : (k n : ℕ) → drives board k n ≡ true → n < netsOf file
   unfolding driverOf onNet boardOf
   drives-low k n h =
-      let c = drives-driver (boardOf file) k n h in
-      let e = eqb-true (netOf (boardOf file .cell (c .0))) n (left (onNet (boardOf file) n (c .0)) _ (c .2)) in
-      rw e at (kept-net file (whole-records file ok) (c .0) (c .1) (or-left _ (right (onNet (boardOf file) n (c .0)) (c .2))))
+      let c = drives-driver board k n h in
+      let e = eqb-true (netOf (board .cell (c .0))) n (left (onNet board n (c .0)) _ (c .2)) in
+      rw e at (kept-net file (whole-records file ok) (c .0) (c .1) (or-left _ (right (onNet board n (c .0)) (c .2))))
 
-  pub drives-few : (k n : ℕ) → drives (boardOf file) k n ≡ true → n < mostNets
+  pub drives-few : (k n : ℕ) → drives board k n ≡ true → n < mostNets
   drives-few k n h = let l = drives-low k n h in let f = laid file (shaped file ok) .nets .at-most in omega arith
 
-  drives-control : (k n : ℕ) → drives (boardOf file) k n ≡ true → isControl (boardOf file) k ≡ true
+  drives-control : (k n : ℕ) → drives board k n ≡ true → isControl board k ≡ true
   unfolding driverOf boardOf
   drives-control k n h =
-      let c = drives-driver (boardOf file) k n h in
-      rw (c .3) at (kept-control file (whole-records file ok) (c .0) (c .1) (right (onNet (boardOf file) n (c .0)) (c .2)) .1)
+      let c = drives-driver board k n h in
+      rw (c .3) at (kept-control file (whole-records file ok) (c .0) (c .1) (right (onNet board n (c .0)) (c .2)) .1)
 
   -- a driver's net and control cell are known
-  pub known : (c : ℕ) → c < boardOf file .size → controlled (boardOf file) c ≡ true → (netOf (boardOf file .cell c) < boardOf file .nets) × (isControl (boardOf file) (controlFor (boardOf file) c) ≡ true)
+  pub known : Known board
   unfolding boardOf
   known c l x = (kept-net file (whole-records file ok) c l (or-left _ x), kept-control file (whole-records file ok) c l x .1)
 
-  pub past : (k i : ℕ) → netsOf file ≤ i → drives (boardOf file) k i ≡ false
+  past : (k i : ℕ) → netsOf file ≤ i → drives board k i ≡ false
   past k i l = fails-if _ (λ t. let b = drives-low k i t in omega arith)
 
-  pub nets-fit : netsOf file ≤ 64 * netWords
+  nets-fit : netsOf file ≤ 64 * netWords
   nets-fit = let f = laid file (shaped file ok) .nets .at-most in omega arith
 
-  crossing-sets : (i j : ℕ) → isCrossing (relationOf (64 * netWords) (drives (boardOf file) i) (drives (boardOf file) j)) ≡ (meets (boardOf file) i j && not (inside (boardOf file) i j) && not (inside (boardOf file) j i))
-  unfolding relationOf meets inside meetsIn insideIn boardOf
-  crossing-sets i j =
-      crossing-by (insideIn (64 * netWords) (drives (boardOf file) i) (drives (boardOf file) j)) (insideIn (64 * netWords) (drives (boardOf file) j) (drives (boardOf file) i)) (meetsIn (64 * netWords) (drives (boardOf file) i) (drives (boardOf file) j))
-      ∙ ap₂ (λ (x y : Bool). x && y)
-      (ap₂ (λ (x y : Bool). x && not y) (meets-bound (drives (boardOf file) i) (drives (boardOf file) j) nets-fit (λ m l u. past i m l)) (inside-bound (drives (boardOf file) i) (drives (boardOf file) j) nets-fit (λ m l u. past i m l)))
-      (ap not (inside-bound (drives (boardOf file) j) (drives (boardOf file) i) nets-fit (λ m l u. past j m l)))
+  -- two control cells' net sets, as the words hold them
+  module _ (i j : ℕ) where
+    abbrev nets-i : ℕ → Bool
+    nets-i = drives board i
 
-  -- how the two sets lie says whether the control cells cross
-  pub crosses-is : (i j : ℕ) (f g : ℕ → Bool) → f ≡ drives (boardOf file) i → g ≡ drives (boardOf file) j → isCrossing (relationOf (64 * netWords) f g) ≡ crosses (boardOf file) i j
-  unfolding crosses
-  crosses-is i j f g e h =
-      ap₂ (λ (x y : ℕ → Bool). isCrossing (relationOf (64 * netWords) x y)) e h ∙ crossing-sets i j ∙ same-test _ _ forth back
-    where
-      b : Board
-      b = boardOf file
+    abbrev nets-j : ℕ → Bool
+    nets-j = drives board j
 
-      forth : (meets (boardOf file) i j && not (inside (boardOf file) i j) && not (inside (boardOf file) j i)) ≡ true → (isControl (boardOf file) i && isControl (boardOf file) j && meets (boardOf file) i j && not (inside (boardOf file) i j) && not (inside (boardOf file) j i)) ≡ true
-      forth t =
-          let m2 = left (meets (boardOf file) i j && not (inside (boardOf file) i j)) _ t in
-          let m = left (meets (boardOf file) i j) _ m2 in
-          let n = meets-net (boardOf file) i j m in
-          both (both (both (both (drives-control i (n .0) (n .2)) (drives-control j (n .0) (n .3))) m) (right (meets (boardOf file) i j) m2)) (right (meets (boardOf file) i j && not (inside (boardOf file) i j)) t)
+    crossing-sets : isCrossing (relationOf (64 * netWords) nets-i nets-j) ≡ (meets board i j && not (inside board i j) && not (inside board j i))
+    unfolding relationOf meets inside meetsIn insideIn boardOf
+    crossing-sets =
+        crossing-by (insideIn (64 * netWords) nets-i nets-j) (insideIn (64 * netWords) nets-j nets-i) (meetsIn (64 * netWords) nets-i nets-j)
+        ∙ ap₂ (λ (x y : Bool). x && y)
+        (ap₂ (λ (x y : Bool). x && not y) (meets-bound nets-i nets-j nets-fit (λ m l u. past i m l)) (inside-bound nets-i nets-j nets-fit (λ m l u. past i m l)))
+        (ap not (inside-bound nets-j nets-i nets-fit (λ m l u. past j m l)))
 
-      back : (isControl (boardOf file) i && isControl (boardOf file) j && meets (boardOf file) i j && not (inside (boardOf file) i j) && not (inside (boardOf file) j i)) ≡ true → (meets (boardOf file) i j && not (inside (boardOf file) i j) && not (inside (boardOf file) j i)) ≡ true
-      back t =
-          let cc4 = left (isControl (boardOf file) i && isControl (boardOf file) j && meets (boardOf file) i j && not (inside (boardOf file) i j)) _ t in
-          let cc3 = left (isControl (boardOf file) i && isControl (boardOf file) j && meets (boardOf file) i j) _ cc4 in
-          both (both (right (isControl (boardOf file) i && isControl (boardOf file) j) cc3) (right (isControl (boardOf file) i && isControl (boardOf file) j && meets (boardOf file) i j) cc4)) (right (isControl (boardOf file) i && isControl (boardOf file) j && meets (boardOf file) i j && not (inside (boardOf file) i j)) t)
+    -- sets that cross are those of control cells
+    forth : (meets board i j && not (inside board i j) && not (inside board j i)) ≡ true → crosses board i j ≡ true
+    forth t =
+        let t2 = left (meets board i j && not (inside board i j)) _ t in
+        let m = left (meets board i j) _ t2 in
+        let n = meets-net board i j m in
+        crossing-of board i j
+        (record {
+          first = drives-control i (n .0) (n .2);
+          second = drives-control j (n .0) (n .3);
+          meet = m;
+          out = fails-not _ (right (meets board i j) t2);
+          back = fails-not _ (right (meets board i j && not (inside board i j)) t);
+        })
 
-  unmet : (i x : ℕ) (met : ℕ → Bool) → met ≡ partnersOf (boardOf file) i → i < x → met x ≡ false → crosses (boardOf file) i x ≡ false
-  unfolding crosses partnersOf
+    back : crosses board i j ≡ true → (meets board i j && not (inside board i j) && not (inside board j i)) ≡ true
+    back t = let c = parts board i j t in both (both (c .meet) (not-fails (c .out))) (not-fails (c .back))
+
+    -- how the two sets lie says whether the control cells cross
+    pub crosses-is : (f g : ℕ → Bool) → f ≡ nets-i → g ≡ nets-j → isCrossing (relationOf (64 * netWords) f g) ≡ crosses board i j
+    crosses-is f g e h =
+        ap₂ (λ (x y : ℕ → Bool). isCrossing (relationOf (64 * netWords) x y)) e h ∙ crossing-sets ∙ same-test _ _ forth back
+
+  unmet : (i x : ℕ) (met : ℕ → Bool) → met ≡ partnersOf board i → i < x → met x ≡ false → crosses board i x ≡ false
+  unfolding partnersOf
   unmet i x met e l f =
-      let m : meets (boardOf file) i x ≡ false = fails-if _ (λ t. clashes (both t (lt-ltb i x l)) (ap (λ (g : ℕ → Bool). g x) (sym e) ∙ f)) in
-      fails-if _ (λ t. clashes (right (isControl (boardOf file) i && isControl (boardOf file) x) (left (isControl (boardOf file) i && isControl (boardOf file) x && meets (boardOf file) i x) _ (left (isControl (boardOf file) i && isControl (boardOf file) x && meets (boardOf file) i x && not (inside (boardOf file) i x)) _ t))) m)
+      let apart : meets board i x ≡ false = fails-if _ (λ t. clashes (both t (lt-ltb i x l)) (ap (λ (g : ℕ → Bool). g x) (sym e) ∙ f)) in
+      fails-if _ (λ t. clashes (parts board i x t .meet) apart)
 
-  pub search-from : (i next : ℕ) (met : ℕ → Bool) → met ≡ partnersOf (boardOf file) i → i + 1 ≤ 64 * cellWords → next ≡ seek met (64 * cellWords - (i + 1)) (i + 1) → Uncrossed (boardOf file) i next
-  search-from i next met e l h =
-      let s = seek-lowest met l in
-      let a = s .above in
-      let u = s .under in
-      record { higher = omega arith; low = omega arith; none = λ x y z. unmet i x met e y (s .lower x (omega arith) (omega arith)) }
+  -- the search begins above i, and goes on above a partner that does not cross it
+  module _ (i next : ℕ) (met : ℕ → Bool) (e : met ≡ partnersOf board i) where
+    pub search-from : i + 1 ≤ 64 * cellWords → next ≡ seek met (64 * cellWords - (i + 1)) (i + 1) → Uncrossed board i next
+    search-from l h =
+        let s = seek-lowest met l in
+        let a = s .above in
+        let u = s .under in
+        record { higher = omega arith; low = omega arith; none = λ x y z. unmet i x met e y (s .lower x (omega arith) (omega arith)) }
 
-  pub search-on : (i j next : ℕ) (met : ℕ → Bool) → met ≡ partnersOf (boardOf file) i → Uncrossed (boardOf file) i j → j < 64 * cellWords → crosses (boardOf file) i j ≡ false → next ≡ seek met (64 * cellWords - (j + 1)) (j + 1) → (j < next) × Uncrossed (boardOf file) i next
-  search-on i j next met e v l f h =
-      let s = seek-lowest met {from = j + 1} {to = 64 * cellWords} (omega arith) in
-      let a = s .above in
-      let u = s .under in
-      let w = v .higher in
-      (omega arith, record { higher = omega arith; low = omega arith; none = λ x y z. ⊎-elim (λ (q : x < j). v .none x y q) (λ (q : j ≤ x). ⊎-elim (λ (r : j < x). unmet i x met e y (s .lower x (omega arith) (omega arith))) (λ (r : x ≤ j). let t : x ≡ j = omega arith in rw t f) (order j x)) (order x j) })
+    pub search-on : (j : ℕ) → Uncrossed board i j → j < 64 * cellWords → crosses board i j ≡ false → next ≡ seek met (64 * cellWords - (j + 1)) (j + 1)
+        → (j < next) × Uncrossed board i next
+    search-on j v l f h =
+        let s = seek-lowest met {from = j + 1} {to = 64 * cellWords} (omega arith) in
+        let a = s .above in
+        let u = s .under in
+        let w = v .higher in
+        (omega arith, record { higher = omega arith; low = omega arith; none = none-are s })
+      where
+        none-are : Lowest met (j + 1) (64 * cellWords) (seek met (64 * cellWords - (j + 1)) (j + 1)) → (x : ℕ) → i < x → x < next → crosses board i x ≡ false
+        none-are s x y z =
+            ⊎-elim
+            (λ (q : x < j). v .none x y q)
+            (λ (q : j ≤ x). ⊎-elim
+            (λ (r : j < x). unmet i x met e y (s .lower x (omega arith) (omega arith)))
+            (λ (r : x ≤ j). let t : x ≡ j = omega arith in rw t f)
+            (order j x))
+            (order x j)
 
   pub search-found : (i j : ℕ) → Uncrossed (boardOf file) i j → j < cellsOf file → crosses (boardOf file) i j ≡ true → true ≡ crossed (boardOf file) i
   unfolding crossed boardOf
@@ -141,7 +170,7 @@ abbrev pub other : Board → ℕ → ℕ → ℕ → Bool
 other b k first c = keyed b ControlCell k c && not (eqb (driversAt b c) first)
 
 -- along k's chain from h: one driver whose net has another count than h's is an unequal pair
-module _ (b : Board) (known : (c : ℕ) → c < b .size → controlled b c ≡ true → (netOf (b .cell c) < b .nets) × (isControl b (controlFor b c) ≡ true)) (k : ℕ) where
+module _ (b : Board) (known : Known b) (k : ℕ) where
   -- a driver of k at c
   on : (c : ℕ) → keyed b ControlCell k c ≡ true → (controlled b c ≡ true) × (controlFor b c ≡ k)
   on c h =
@@ -188,14 +217,21 @@ module _ (b : Board) (known : (c : ℕ) → c < b .size → controlled b c ≡ t
           let apart = eqb-false _ _ (fails-not _ (right (keyed b ControlCell k (c .0)) (c .2))) in
           let o = on (c .0) kc in
           let is = known (c .0) (c .1) (o .0) in
-          both (rw (o .1) at (is .1))
-          (any-at _ _ (is .0) (any-at _ _ (known h l (on h key .0) .0) (both (both (own-net b k (c .0) (c .1) kc) (own-net b k h l key)) (not-fails (ne-eqb _ _ (λ q. apart (counts (c .0) kc ∙ q ∙ sym (counts h key) ∙ sym e)))))))
+          let differ = not-fails (ne-eqb _ _ (λ q. apart (counts (c .0) kc ∙ q ∙ sym (counts h key) ∙ sym e))) in
+          let pair = both (both (own-net b k (c .0) (c .1) kc) (own-net b k h l key)) differ in
+          both (rw (o .1) at (is .1)) (any-at _ _ (is .0) (any-at _ _ (known h l (on h key .0) .0) pair))
 
   -- an empty chain has no pair
   pub unequal-none : ((c : ℕ) → c < b .size → keyed b ControlCell k c ≡ false) → unequal b k ≡ false
   unfolding unequal
-  unequal-none none =
-      fails-if _ (λ t. let n = any-member _ _ (right (isControl b k) t) in let m = any-member _ _ (n .2) in let c = driver-at (n .0) (left (drives b k (n .0)) _ (left (drives b k (n .0) && drives b k (m .0)) _ (m .2))) in clashes (c .2) (none (c .0) (c .1)))
+  unequal-none none = fails-if _ driven
+    where
+      driven : unequal b k ≡ true → ⊥
+      driven t =
+          let n = any-member _ _ (right (isControl b k) t) in
+          let m = any-member _ _ (n .2) in
+          let c = driver-at (n .0) (left (drives b k (n .0)) _ (left (drives b k (n .0) && drives b k (m .0)) _ (m .2))) in
+          clashes (c .2) (none (c .0) (c .1))
 
 -- over a file
 module _ (file : List ℕ) (ok : judge (fileChecks file) ≡ Accepted) (k : ℕ) where

@@ -4,7 +4,7 @@ use mathlib.Core.Path.{_≡_, _∙_}
 use mathlib.Core.Bool.{true, false, not, _&&_}
 use borrow.Author.Tests.{eq-eqb, ltb-true}
 use lib.Dec.{ltb}
-use Rattle.base.proofs.BoolLaws.{left, right, both, fails-not, fails-if, clashes}
+use Rattle.base.proofs.BoolLaws.{left, right, both, not-fails, fails-not, fails-if, clashes}
 use Rattle.base.proofs.TestLaws.{none-any}
 use Rattle.rules.specs.File.{Board}
 use Rattle.rules.specs.Drivers.{isControl, onNet, driverOf, drives, meets, inside, crosses}
@@ -36,6 +36,10 @@ module _ (b : Board) where
         out = fails-not _ (right (isControl b i && isControl b j && meets b i j) t4);
         back = fails-not _ (right (isControl b i && isControl b j && meets b i j && not (inside b i j)) t);
       }
+
+  pub crossing-of : (i j : ℕ) → Crossing b i j → crosses b i j ≡ true
+  unfolding crosses
+  crossing-of i j c = both (both (both (both (c .first) (c .second)) (c .meet)) (not-fails (c .out))) (not-fails (c .back))
 
   pub crossed-none : (i : ℕ) → ((j : ℕ) → i < j → j < b .size → crosses b i j ≡ true → ⊥) → crossed b i ≡ false
   unfolding crossed

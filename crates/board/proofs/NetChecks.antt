@@ -2,16 +2,16 @@
 use Prim.Native.Nat.{ℕ, zero, suc, _<_, _≤_}
 use mathlib.Core.Path.{_≡_, refl, sym, _∙_, ap, ap₂}
 use mathlib.Core.Bool.{Bool, cond, not, _||_, true, false}
-use mathlib.Core.List.{List, [], _∷_}
+use mathlib.Core.List.{List, [], _∷_, _++_}
 use native.Mathlib.Omega.{arith}
 use borrow.Author.Tests.{ne-eqb}
 use lib.Dec.{eqb, ltb}
 use Rattle.base.specs.Tests.{any}
 use Rattle.base.proofs.BoolLaws.{same-test}
 use Rattle.base.proofs.TestLaws.{any-at, any-member}
-use Rattle.rules.specs.File.{Board, boardOf, cellsOf, netsOf}
+use Rattle.rules.specs.File.{boardOf, cellsOf, netsOf}
 use Rattle.rules.specs.Drivers.{drivers}
-use Rattle.rules.specs.Refusals.{judge, each, undriven, clashing, crowded, mostDrivers, mostNets, netChecks}
+use Rattle.rules.specs.Refusals.{Check, judge, each, undriven, clashing, crowded, mostDrivers, mostNets, netChecks}
 use Rattle.rules.specs.declared.Verdict.{Verdict}
 use Rattle.rules.proofs.Shape.{laid, shaped}
 use Rattle.rules.proofs.Verdicts.{andThen, Then, judge-then, judge-same}
@@ -70,10 +70,11 @@ module _ (file t : List ℕ) (nets : ℕ) (filled : Filled file t) (e : nets ≡
   pub nets-judged : Then (judge (each 7 nets (undrivenIn t) ∷ [])) later (judge (netChecks (boardOf file)))
   unfolding netChecks boardOf
   nets-judged =
-      let b : Board = boardOf file in
+      let clash : List Check = each 8 (netsOf file) (clashing (boardOf file)) ∷ [] in
+      let crowd : List Check = each 9 (netsOf file) (crowded (boardOf file)) ∷ [] in
       record {
-        row = judge-then (each 7 (netsOf file) (undriven b) ∷ []) (each 8 (netsOf file) (clashing b) ∷ each 9 (netsOf file) (crowded b) ∷ [])
-            ∙ ap₂ andThen first-is (judge-then (each 8 (netsOf file) (clashing b) ∷ []) (each 9 (netsOf file) (crowded b) ∷ []) ∙ ap (andThen (judge (each 8 (netsOf file) (clashing b) ∷ []))) last-is);
+        row = judge-then (each 7 (netsOf file) (undriven (boardOf file)) ∷ []) (clash ++ crowd)
+            ∙ ap₂ andThen first-is (judge-then clash crowd ∙ ap (andThen (judge clash)) last-is);
       }
 
   pub later-judged : Then (judge (each 8 (netsOf file) (clashing (boardOf file)) ∷ [])) (judge (each 9 nets (crowdedIn t) ∷ [])) later

@@ -116,10 +116,14 @@ pub known-net : (file : List ℕ) → judge (fileChecks file) ≡ Accepted → (
 unfolding boardOf
 known-net file ok c l x = kept-net file (whole-records file ok) c l (or-left _ x)
 
-pub all-sharers : (file : List ℕ) → judge (fileChecks file) ≡ Accepted → (k : ℕ) (s : ℕ → Bool) → ((j : ℕ) → s j ≡ (nothing j || any (cellsOf file) (sharesAbove (boardOf file) k j))) → s ≡ partnersOf (boardOf file) k
+pub all-sharers : (file : List ℕ) → judge (fileChecks file) ≡ Accepted → (k : ℕ) (s : ℕ → Bool)
+    → ((j : ℕ) → s j ≡ (nothing j || any (cellsOf file) (sharesAbove (boardOf file) k j))) → s ≡ partnersOf (boardOf file) k
 unfolding boardOf partnersOf
 all-sharers file ok k s h =
-    fun-ext (λ j. h j ∙ any-both (cellsOf file) (shares (boardOf file) k j) (ltb k j) ∙ ap (λ (x : Bool). x && ltb k j) (same-test _ _ (shares-meets (boardOf file) (known-net file ok) k j) (meets-shares (boardOf file) (known-net file ok) k j)))
+    fun-ext (λ j. h j ∙ any-both (cellsOf file) (shares (boardOf file) k j) (ltb k j) ∙ ap (λ (x : Bool). x && ltb k j) (shared j))
+  where
+    shared : (j : ℕ) → any (boardOf file .size) (shares (boardOf file) k j) ≡ meets (boardOf file) k j
+    shared j = same-test _ _ (shares-meets (boardOf file) (known-net file ok) k j) (meets-shares (boardOf file) (known-net file ok) k j)
 
 -- the net of a driver on a chain fits a set of nets
 pub chained-net : (file : List ℕ) → judge (fileChecks file) ≡ Accepted → (k c : ℕ) → c < cellsOf file → keyed (boardOf file) ControlCell k c ≡ true → netOf (boardOf file .cell c) < 64 * netWords

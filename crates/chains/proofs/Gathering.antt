@@ -39,7 +39,8 @@ module _ (file : List ℕ) (by : By) (t : List ℕ) (chains : Chains file by t) 
   pub gather-on : {first so-far : ℕ → Bool} (at cell : ℕ) → Gathering first so-far at → 0 < at → cell ≡ at - 1 → keyed (boardOf file) by k cell ≡ true
   gather-on at cell g p e = rw e (last-member at (keyed (boardOf file) by k) (at - 1) (g .top ∙ sym (above at p)))
 
-  pub gather-next : {first so-far : ℕ → Bool} (more : ℕ → Bool) (at cell next : ℕ) → Gathering first so-far at → 0 < at → cell ≡ at - 1 → ((m : ℕ) → more m ≡ (q m cell || so-far m)) → next ≡ linkIn by t cell → Gathering first more next
+  pub gather-next : {first so-far : ℕ → Bool} (more : ℕ → Bool) (at cell next : ℕ) → Gathering first so-far at → 0 < at → cell ≡ at - 1
+      → ((m : ℕ) → more m ≡ (q m cell || so-far m)) → next ≡ linkIn by t cell → Gathering first more next
   unfolding any
   gather-next {first} {so-far} more at cell next g p named grown e =
       let b = boardOf file in

@@ -1,7 +1,7 @@
 -- Laws of the sets that walks gather: what one driver brings, and which numbers fit a set.
 use Prim.Native.Nat.{ℕ, _<_, _≤_, _*_}
 use mathlib.Core.Path.{_≡_, sym, _∙_, ap, fun-ext}
-use mathlib.Core.Bool.{Bool, _&&_, _||_}
+use mathlib.Core.Bool.{Bool, _&&_, _||_, false}
 use mathlib.Core.List.{List}
 use native.Mathlib.Omega.{arith}
 use borrow.Author.Tests.{eqb-true, lt-ltb, ltb-true}
@@ -37,12 +37,17 @@ module _ (b : Board) (c : ℕ) (f : ℕ → Bool) where
     control-at low j = rw (is-driver b c k n e .0, is-driver b c k n e .1)
 
     pub one-control : (low : ℕ) → low < k .0 → plus f (k .0) ≡ withControl b low c f
-    one-control low l =
-        fun-ext (λ j. ap (λ (x : Bool). x || f j) (eqb-back j (k .0) ∙ same-test (eqb (k .0) j) (eqb (k .0) j && ltb low j) (λ t. both t (ap (ltb low) (sym (eqb-true (k .0) j t)) ∙ lt-ltb low (k .0) l)) (λ t. left (eqb (k .0) j) _ t)) ∙ sym (control-at low j))
+    one-control low l = fun-ext (λ j. ap (λ (x : Bool). x || f j) (eqb-back j (k .0) ∙ above j) ∙ sym (control-at low j))
+      where
+        above : (j : ℕ) → eqb (k .0) j ≡ (eqb (k .0) j && ltb low j)
+        above j = same-test _ _ (λ t. both t (ap (ltb low) (sym (eqb-true (k .0) j t)) ∙ lt-ltb low (k .0) l)) (λ t. left (eqb (k .0) j) _ t)
 
     pub low-control : (low : ℕ) → k .0 ≤ low → f ≡ withControl b low c f
-    low-control low l =
-        fun-ext (λ j. ap (λ (x : Bool). x || f j) (sym (fails-if _ (λ t. let s = eqb-true (k .0) j (left (eqb (k .0) j) _ t) in let m = ltb-true low j (right (eqb (k .0) j) t) in omega arith))) ∙ sym (control-at low j))
+    low-control low l = fun-ext (λ j. ap (λ (x : Bool). x || f j) (sym (below j)) ∙ sym (control-at low j))
+      where
+        below : (j : ℕ) → (eqb (k .0) j && ltb low j) ≡ false
+        below j =
+            fails-if _ (λ t. let s = eqb-true (k .0) j (left (eqb (k .0) j) _ t) in let m = ltb-true low j (right (eqb (k .0) j) t) in omega arith)
 
     pub its-sharers : (low : ℕ) → withControls b low (n .0) f ≡ withSharers b low c f
     unfolding withSharers withControls

@@ -30,7 +30,8 @@ module _ (from c k : ℕ) (t : List ℕ) where
   pub spliced-link : c < mostCells → from + (mostCells + k) < length t → getD (spliced from c k t) (from + c) 0 ≡ getD t (from + (mostCells + k)) 0
   unfolding spliced
   spliced-link m l =
-      getD-set-other linked (from + (mostCells + k)) (from + c) (c + 1) 0 (λ (s : from + c ≡ from + (mostCells + k)). omega arith) ∙ getD-set-same t (from + c) (getD t (from + (mostCells + k)) 0) 0 (omega arith)
+      getD-set-other linked (from + (mostCells + k)) (from + c) (c + 1) 0 (λ (s : from + c ≡ from + (mostCells + k)). omega arith)
+      ∙ getD-set-same t (from + c) (getD t (from + (mostCells + k)) 0) 0 (omega arith)
 
   pub spliced-other : (i : ℕ) → (i ≡ from + c → ⊥) → (i ≡ from + (mostCells + k) → ⊥) → getD (spliced from c k t) i 0 ≡ getD t i 0
   unfolding spliced

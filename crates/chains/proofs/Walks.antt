@@ -28,6 +28,11 @@ cells-fit file ok = laid file (shaped file ok) .cells .at-most
 pub above : (at : ℕ) → 0 < at → suc (at - 1) ≡ at
 above at h = omega arith
 
+-- a cell of the file that has key k
+pub record Named (file : List ℕ) (by : By) (k cell : ℕ) : Type 0 where
+  pub below : cell < cellsOf file
+  pub on : keyed (boardOf file) by k cell ≡ true
+
 module _ (file : List ℕ) (by : By) (t : List ℕ) (chains : Chains file by t) where
   -- a head or a link is no higher than it may be
   pub head-low : (k : ℕ) → k < room by → headIn by t k ≤ cellsOf file
@@ -68,6 +73,16 @@ module _ (file : List ℕ) (by : By) (t : List ℕ) (chains : Chains file by t) 
 
     pub missed : (n at : ℕ) → Walk n at → at ≤ 0 → any n q ≡ false
     missed n at w z = let e : at ≡ 0 = omega arith in walk-ended _ q only n (rw e at w)
+
+  -- what a head names
+  pub head-fits : (k : ℕ) → k < room by → headIn by t k ≤ mostCells
+  head-fits k l = let low = head-low k l in let fit = cells-fit file (chains .checked) in omega arith
+
+  pub named-head : (k : ℕ) → k < room by → (at cell : ℕ) → at ≡ headIn by t k → 0 < at → cell ≡ at - 1 → Named file by k cell
+  named-head k l at cell e some named =
+      let low = head-low k l in
+      let own : ℕ → Bool = keyed (boardOf file) by k in
+      record { below = omega arith; on = on-chain k own (λ d h. h) _ at cell (from-head k own (λ d h. h) l at e) some named }
 
   -- a head that is none: no position has the key
   pub none-keyed : (k : ℕ) → k < room by → headIn by t k ≡ 0 → (c : ℕ) → c < cellsOf file → keyed (boardOf file) by k c ≡ false

@@ -137,7 +137,8 @@ module _ (b : Board) (s : Sound b) (which : Pass) (g : ℕ) (allowed : ℕ → B
   pass-highest zero on l h = refl
   pass-highest (suc c) on l h = go (highest b c) refl (pass-highest c (after c on) (omega arith) (settled-next c on h))
     where
-      go : (a : Bool) → highest b c ≡ a → over (highestDrivers b c) (after c on) ≡ whole c (after c on) → over (cond (highest b c) (c ∷ highestDrivers b c) (highestDrivers b c)) on ≡ whole c (after c on)
+      go : (a : Bool) → highest b c ≡ a → over (highestDrivers b c) (after c on) ≡ whole c (after c on)
+          → over (cond (highest b c) (c ∷ highestDrivers b c) (highestDrivers b c)) on ≡ whole c (after c on)
       go true e r = rw e r
       go false e r = rw e (ap (over (highestDrivers b c)) (turn-idle c on l e h) ∙ r)
 

@@ -122,7 +122,8 @@ holds-none b state e f = record { on-are = e; covered-are = f }
 abbrev passes : Board → ℕ → (ℕ → Bool) → ℕ → List ℕ
 passes b g f size = pass b (wantedIn b Second g) (allowedIn Second f) size (pass b (wantedIn b First g) (allowedIn First f) size [])
 
-pub selected-is : (b : Board) (g : ℕ) (used : List ℕ) (f : ℕ → Bool) (size : ℕ) (state : Turned) → f ≡ listed used → size ≡ b .size → Holds b (passes b g f size) state → member (state .on .words) ≡ listed (selected b g used)
+pub selected-is : (b : Board) (g : ℕ) (used : List ℕ) (f : ℕ → Bool) (size : ℕ) (state : Turned) → f ≡ listed used → size ≡ b .size
+    → Holds b (passes b g f size) state → member (state .on .words) ≡ listed (selected b g used)
 unfolding selected firstPass secondPass wantedIn wantedAt allowedIn
 selected-is b g used f size state e s h =
     h .on-are ∙ ap (λ (x : ℕ). listed (passes b g f x)) s ∙ ap (λ (t : ℕ → Bool). listed (passes b g t (b .size))) e

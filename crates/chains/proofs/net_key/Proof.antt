@@ -25,4 +25,17 @@ returns-5 c = output-key _ _ _ _ (c .before .before .before .before .cell-at .en
 pub net-key-spec : {M : Type 1} → statement M
 net-key-spec =
     tie.close
-    (tie.spec (λ c κs. c .before .pre) (λ c. search needs) (λ c. search needs) (λ c. search needs) (λ c. search needs) (λ c. search needs) (λ c. search needs) (λ c. search needs) returns returns-2 returns-3 returns-4 returns-5)
+    (tie.spec
+    (λ c κs. c .before .pre)
+    (λ c. search needs)
+    (λ c. search needs)
+    (λ c. search needs)
+    (λ c. search needs)
+    (λ c. search needs)
+    (λ c. search needs)
+    (λ c. search needs)
+    returns
+    returns-2
+    returns-3
+    returns-4
+    returns-5)

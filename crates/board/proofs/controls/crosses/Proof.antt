@@ -97,7 +97,7 @@ module _ (c : tie.After-next2 Inv-loop μ-loop) (i : ℕ) where
       let x = compared-at c in
       let f = fit (start l) in
       let h = here (in-loop x) in
-      search-on _ (checked (start l)) _ _ _ _ set v (omega arith) (sym (compared x i e) ∙ c .before .if2 .left) (c .next2 .ensures)
+      search-on _ (checked (start l)) _ _ _ set _ v (omega arith) (sym (compared x i e) ∙ c .before .if2 .left) (c .next2 .ensures)
 
 next-requires-2 : tie.Need-next-requires-2 Inv-loop μ-loop
 next-requires-2 c κs =

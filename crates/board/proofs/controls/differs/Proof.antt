@@ -66,7 +66,8 @@ unfolding anyOther boardOf
 returns c =
     let n = c .before .before in
     let l = n .before .before in
-    sym (hit _ _ _ (start l .pre .0) _ _ (λ d h. left _ _ h) _ _ _ (walk l) (n .before .loop-test .taken) (n .cell-named .ensures) (tells _ _ _ _ _ (on n) (c .before .drivers-at .ensures) (c .if1 .taken)))
+    let other = tells _ _ _ _ _ (on n) (c .before .drivers-at .ensures) (c .if1 .taken) in
+    sym (hit _ _ _ (start l .pre .0) _ _ (λ d h. left _ _ h) _ _ _ (walk l) (n .before .loop-test .taken) (n .cell-named .ensures) other)
 
 loop-less : tie.Need-loop-less Inv-loop μ-loop
 loop-less c =

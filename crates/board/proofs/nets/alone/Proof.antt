@@ -37,8 +37,10 @@ returns-2 c =
     let p = start n .pre in
     let fits = net-fits _ (p .0 .checked) _ (p .1) in
     let z = n .before .if1 .left in
-    let h = n .before .before .net-head .ensures in
-    (λ t. one-alone _ _ (p .0) _ fits _ _ h (omega arith) (n .cell-named .ensures) (sym (c .net-link .ensures) ∙ eqb-true _ _ t), λ f. more-several _ _ (p .0) _ fits _ _ h (omega arith) (n .cell-named .ensures) (λ e. eqb-false _ _ f (c .net-link .ensures ∙ e)))
+    let h = n .before .before .net-head .ensures in (
+      λ t. one-alone _ _ (p .0) _ fits _ _ h (omega arith) (n .cell-named .ensures) (sym (c .net-link .ensures) ∙ eqb-true _ _ t),
+      λ f. more-several _ _ (p .0) _ fits _ _ h (omega arith) (n .cell-named .ensures) (λ e. eqb-false _ _ f (c .net-link .ensures ∙ e)),
+    )
 
 pub alone-spec : {M : Type 1} → statement M
 alone-spec =

@@ -57,7 +57,8 @@ abbrev at-loop : tie.After-known-told Inv-loop μ-loop → tie.At-loop Inv-loop 
 at-loop c = named (asked c) .before .before
 
 -- the driver found is the cell's
-told : (d : tie.After-known-told Inv-loop μ-loop) → driverAt (boardOf (file (at-loop d))) (named (asked d) .cell-named .result .0) ≡ Of (d .before .driver .given .0 .0) (d .before .driver .given .0 .1 .0)
+told : (d : tie.After-known-told Inv-loop μ-loop) → driverAt (boardOf (file (at-loop d))) (named (asked d) .cell-named .result .0)
+    ≡ Of (d .before .driver .given .0 .0) (d .before .driver .given .0 .1 .0)
 told d = driver-is _ _ _ (asked d .driver-at .ensures) (d .before .driver .given .1)
 
 -- its control cell fits a set of cells
@@ -78,7 +79,8 @@ returns c =
     let n = named a in
     let l = n .before .before in
     let p = start l .pre in
-    always-clashes _ _ _ (p .1 .1) (here n) (meeting-on _ _ (p .0) _ _ _ _ (walk l) (n .before .loop-test .taken) (n .cell-named .ensures)) (driver-is _ _ _ (a .driver-at .ensures) (c .enum-told .given .1))
+    let on = meeting-on _ _ (p .0) _ _ _ _ (walk l) (n .before .loop-test .taken) (n .cell-named .ensures) in
+    always-clashes _ _ _ (p .1 .1) (here n) on (driver-is _ _ _ (a .driver-at .ensures) (c .enum-told .given .1))
 
 has-requires : tie.Need-has-requires Inv-loop μ-loop
 has-requires c κs = let d = c .before .before in let f = control-fits d in omega (arith, at-loop d .loop .inv .1)
@@ -114,7 +116,11 @@ loop-again c =
     let d = held h in
     let n = named (asked d) in
     let l = at-loop d in
-    (λ k few e. meeting-next _ _ (start l .pre .0) _ _ _ _ _ _ (l .loop .inv .0 k few e) (n .before .loop-test .taken) (n .cell-named .ensures) _ _ (told d) (sym (h .has .ensures) ∙ c .before .before .before .before .before .if1 .left) (c .before .before .add .ensures) (c .net-link .ensures), search needs)
+    let new = sym (h .has .ensures) ∙ c .before .before .before .before .before .if1 .left in (
+      λ k few e. meeting-next _ _ (start l .pre .0) _ _ _ _ _ _ (l .loop .inv .0 k few e) (n .before .loop-test .taken) (n .cell-named .ensures)
+          _ _ (told d) new (c .before .before .add .ensures) (c .net-link .ensures),
+      search needs,
+    )
 
 pub several-clash-spec : {M : Type 1} → statement M
 several-clash-spec =

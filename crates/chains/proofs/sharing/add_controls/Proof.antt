@@ -15,9 +15,13 @@ use Rattle.chains.proofs.Brought.{bringsAbove, brings-net, control-grow
 use Rattle.chains.proofs.sharing.add_controls.Statement.{statement}
 use Rattle.chains.proofs.sharing.add_controls.Tie as tie
 
+-- the control cells of n above low, gathered down to `at`
+abbrev Controls : List ℕ → ℕ → ℕ → (ℕ → Bool) → (ℕ → Bool) → ℕ → Type 0
+Controls file low n first so-far at = Gathered (keyed (boardOf file) NetOf n) (bringsAbove (boardOf file) low n) first so-far (cellsOf file) at
+
 abbrev Inv-loop : tie.InvT-loop
 Inv-loop file table low more₀ at₀ more at =
-    (n : ℕ) → n < mostNets → at₀ ≡ headIn NetOf table n → Gathered (keyed (boardOf file) NetOf n) (bringsAbove (boardOf file) (low .0) n) (member (more₀ .words)) (member (more .words)) (cellsOf file) at
+    (n : ℕ) → n < mostNets → at₀ ≡ headIn NetOf table n → Controls file (low .0) n (member (more₀ .words)) (member (more .words)) at
 
 abbrev μ-loop : tie.MeasureT-loop
 μ-loop file table low more₀ at₀ more at = at
@@ -32,7 +36,7 @@ abbrev net : tie.At-loop Inv-loop μ-loop → ℕ
 net l = start l .args .n .0
 
 -- the walk so far
-walk : (l : tie.At-loop Inv-loop μ-loop) → Gathered (keyed (boardOf (file l)) NetOf (net l)) (bringsAbove (boardOf (file l)) (start l .args .low .0) (net l)) (member (start l .args .met .words)) (member (l .loop .more .words)) (cellsOf (file l)) (l .loop .at)
+walk : (l : tie.At-loop Inv-loop μ-loop) → Controls (file l) (start l .args .low .0) (net l) (member (start l .args .met .words)) (member (l .loop .more .words)) (l .loop .at)
 walk l =
     let p = start l .pre in
     l .loop .inv (net l) (net-fits _ (p .0 .checked) _ (p .1)) (l .before .net-head .ensures)

@@ -1,7 +1,7 @@
 -- A walk along k's chain that gathers the nets of its drivers.
 use Prim.Native.Nat.{ℕ, _<_}
 use mathlib.Core.Path.{_≡_, refl, sym}
-use mathlib.Core.Bool.{true}
+use mathlib.Core.Bool.{Bool, true}
 use mathlib.Core.List.{List}
 use borrow.Author.Needs.{needs}
 use native.Mathlib.Omega.{arith}
@@ -18,9 +18,13 @@ use Rattle.chains.proofs.Brought.{brings, brings-control, net-brought, 
 use Rattle.chains.proofs.sharing.nets_of.Statement.{statement}
 use Rattle.chains.proofs.sharing.nets_of.Tie as tie
 
+-- the nets of k, gathered down to `at`
+abbrev Nets : List ℕ → ℕ → (ℕ → Bool) → ℕ → Type 0
+Nets file k so-far at = Gathered (keyed (boardOf file) ControlCell k) (brings (boardOf file) k) nothing so-far (cellsOf file) at
+
 abbrev Inv-loop : tie.InvT-loop
 Inv-loop file table words₀ at₀ words at =
-    ((k : ℕ) → k < mostCells → at₀ ≡ headIn ControlCell table k → Gathered (keyed (boardOf file) ControlCell k) (brings (boardOf file) k) nothing (member words) (cellsOf file) at) × (length words ≡ netWords)
+    ((k : ℕ) → k < mostCells → at₀ ≡ headIn ControlCell table k → Nets file k (member words) at) × (length words ≡ netWords)
 
 abbrev μ-loop : tie.MeasureT-loop
 μ-loop file table words₀ at₀ words at = at
@@ -35,7 +39,7 @@ abbrev control : tie.At-loop Inv-loop μ-loop → ℕ
 control l = start l .args .k .0
 
 -- the walk so far
-walk : (l : tie.At-loop Inv-loop μ-loop) → Gathered (keyed (boardOf (file l)) ControlCell (control l)) (brings (boardOf (file l)) (control l)) nothing (member (l .loop .words)) (cellsOf (file l)) (l .loop .at)
+walk : (l : tie.At-loop Inv-loop μ-loop) → Nets (file l) (control l) (member (l .loop .words)) (l .loop .at)
 walk l =
     let p = start l .pre in
     l .loop .inv .0 (control l) (cell-fits _ (p .0 .checked) _ (p .1)) (l .before .head .ensures)
