@@ -28,6 +28,10 @@ cells-fit file ok = laid file (shaped file ok) .cells .at-most
 pub above : (at : ℕ) → 0 < at → suc (at - 1) ≡ at
 above at h = omega arith
 
+-- the cell that a walk has come to lies below what it started from
+pub below-named : (n at cell : ℕ) → at ≤ n → 0 < at → cell ≡ at - 1 → cell < n
+below-named n at cell under some named = omega arith
+
 -- a cell of the file that has key k
 pub record Named (file : List ℕ) (by : By) (k cell : ℕ) : Type 0 where
   pub below : cell < cellsOf file
@@ -40,6 +44,10 @@ module _ (file : List ℕ) (by : By) (t : List ℕ) (chains : Chains file by t) 
 
   pub link-low : (c : ℕ) → c < cellsOf file → linkIn by t c ≤ c
   link-low c l = chains .linked .lower c (cell-fits file (chains .checked) c l)
+
+  -- so a walk goes down
+  pub walk-falls : (at cell next : ℕ) → cell < cellsOf file → 0 < at → cell ≡ at - 1 → next ≡ linkIn by t cell → next < at
+  walk-falls at cell next l some named e = let low = link-low cell l in omega arith
 
   module _ (k : ℕ) (q : ℕ → Bool) (only : (c : ℕ) → q c ≡ true → keyed (boardOf file) by k c ≡ true) where
     abbrev pub Walk : ℕ → ℕ → Type 0

@@ -12,7 +12,7 @@ use Rattle.rules.specs.Refusals.{mostCells}
 use Rattle.chains.specs.Table.{ControlCell, headIn}
 use Rattle.chains.specs.Chains.{keyed}
 use Rattle.chains.proofs.Chaining.{Walking}
-use Rattle.chains.proofs.Walks.{cell-fits, cells-fit, link-low, from-head, step, on-chain, hit, missed}
+use Rattle.chains.proofs.Walks.{cell-fits, cells-fit, from-head, step, on-chain, hit, missed, below-named, walk-falls}
 use Rattle.chains.proofs.Brought.{keyed-controlled}
 use Rattle.board.specs.Controls.{driversAt, anyOther}
 use Rattle.board.proofs.ControlChecks.{other}
@@ -50,11 +50,7 @@ walk l =
 
 -- the cell that the walk has come to is one of the file's, and a driver of k
 here : (c : tie.After-cell-named Inv-loop μ-loop) → c .cell-named .result .0 < cellsOf (file (c .before .before))
-here c =
-    let u = walk (c .before .before) .under in
-    let t = c .before .loop-test .taken in
-    let e = c .cell-named .ensures in
-    omega arith
+here c = below-named _ _ _ (walk (c .before .before) .under) (c .before .loop-test .taken) (c .cell-named .ensures)
 
 on : (c : tie.After-cell-named Inv-loop μ-loop) → keyed (boardOf (file (c .before .before))) ControlCell (control (c .before .before)) (c .cell-named .result .0) ≡ true
 on c =
@@ -72,11 +68,7 @@ returns c =
 loop-less : tie.Need-loop-less Inv-loop μ-loop
 loop-less c =
     let n = c .before .before .before in
-    let t = n .before .loop-test .taken in
-    let e = c .link .ensures in
-    let d = n .cell-named .ensures in
-    let l = link-low _ _ _ (start (n .before .before) .pre .0) _ (here n) in
-    omega arith
+    walk-falls _ _ _ (start (n .before .before) .pre .0) _ _ _ (here n) (n .before .loop-test .taken) (n .cell-named .ensures) (c .link .ensures)
 
 loop-again : tie.Need-loop-again Inv-loop μ-loop
 loop-again c k few e =

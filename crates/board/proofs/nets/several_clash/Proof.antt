@@ -14,7 +14,7 @@ use Rattle.rules.proofs.DriverLaws.{driver-is, control-below}
 use Rattle.words.specs.Sets.{cellWords, member}
 use Rattle.words.proofs.SetLaws.{member-zeros}
 use Rattle.chains.specs.Table.{NetOf, headIn}
-use Rattle.chains.proofs.Walks.{net-fits, cells-fit, cell-fits, link-low}
+use Rattle.chains.proofs.Walks.{net-fits, cells-fit, cell-fits, below-named, walk-falls}
 use Rattle.board.proofs.Clashing.{Met, meeting-start, meeting-on, meeting-under, meeting-again, meeting-next, meeting-ended, always-clashes}
 use Rattle.board.proofs.nets.several_clash.Statement.{statement}
 use Rattle.board.proofs.nets.several_clash.Tie as tie
@@ -40,11 +40,7 @@ walk l =
 
 -- the cell that the walk has come to is one of the file's
 here : (c : tie.After-cell-named Inv-loop μ-loop) → c .cell-named .result .0 < cellsOf (file (c .before .before))
-here c =
-    let u = meeting-under _ _ _ _ (walk (c .before .before)) in
-    let t = c .before .loop-test .taken in
-    let e = c .cell-named .ensures in
-    omega arith
+here c = below-named _ _ _ (meeting-under _ _ _ _ (walk (c .before .before))) (c .before .loop-test .taken) (c .cell-named .ensures)
 
 -- the place where the cell was named, from where its driver was asked for or told
 abbrev named : tie.After-driver-at Inv-loop μ-loop → tie.After-cell-named Inv-loop μ-loop
@@ -104,11 +100,7 @@ loop-less : tie.Need-loop-less Inv-loop μ-loop
 loop-less c =
     let d = held (c .before .before .before .before .before .before) in
     let n = named (asked d) in
-    let t = n .before .loop-test .taken in
-    let e = c .net-link .ensures in
-    let m = n .cell-named .ensures in
-    let l = link-low _ _ _ (start (at-loop d) .pre .0) _ (here n) in
-    omega arith
+    walk-falls _ _ _ (start (at-loop d) .pre .0) _ _ _ (here n) (n .before .loop-test .taken) (n .cell-named .ensures) (c .net-link .ensures)
 
 loop-again : tie.Need-loop-again Inv-loop μ-loop
 loop-again c =

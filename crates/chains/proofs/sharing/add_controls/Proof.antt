@@ -9,7 +9,7 @@ use Rattle.rules.specs.Refusals.{mostNets}
 use Rattle.words.specs.Sets.{member}
 use Rattle.chains.specs.Table.{NetOf, headIn}
 use Rattle.chains.specs.Chains.{keyed}
-use Rattle.chains.proofs.Walks.{net-fits, cells-fit, cell-fits, link-low}
+use Rattle.chains.proofs.Walks.{net-fits, cells-fit, cell-fits, below-named, walk-falls}
 use Rattle.chains.proofs.Gathering.{Gathered, gather-start, gather-on, gather-next, gather-ended}
 use Rattle.chains.proofs.Brought.{bringsAbove, brings-net, control-grown, all-controls}
 use Rattle.chains.proofs.sharing.add_controls.Statement.{statement}
@@ -43,20 +43,12 @@ walk l =
 
 -- the cell that the walk has come to is one of the file's
 here : (c : tie.After-cell-named Inv-loop μ-loop) → c .cell-named .result .0 < cellsOf (file (c .before .before))
-here c =
-    let u = walk (c .before .before) .under in
-    let t = c .before .loop-test .taken in
-    let e = c .cell-named .ensures in
-    omega arith
+here c = below-named _ _ _ (walk (c .before .before) .under) (c .before .loop-test .taken) (c .cell-named .ensures)
 
 loop-less : tie.Need-loop-less Inv-loop μ-loop
 loop-less c =
     let n = c .before .before in
-    let t = n .before .loop-test .taken in
-    let e = c .net-link .ensures in
-    let d = n .cell-named .ensures in
-    let l = link-low _ _ _ (start (n .before .before) .pre .0) _ (here n) in
-    omega arith
+    walk-falls _ _ _ (start (n .before .before) .pre .0) _ _ _ (here n) (n .before .loop-test .taken) (n .cell-named .ensures) (c .net-link .ensures)
 
 loop-again : tie.Need-loop-again Inv-loop μ-loop
 loop-again c k few e =
