@@ -71,12 +71,12 @@ fn lowest_crossed(file: &[u8], table: &[u16; TABLE], cells: usize) -> Verdict
     requires { ⌜ cells ≡ cellsOf (now file) ⌝ }
     ensures { λ r. ⌜ r ≡ judge (each 10 (cellsOf (now (file .entry))) (crossed (boardOf (now (file .entry)))) ∷ []) ⌝ }
 {
-    let mut k = 0;
-    while k < cells {
-        if crosses(file, table, cells, Position(k as u16)) {
-            return rules::refuse(10, k);
+    let mut i = 0;
+    while i < cells {
+        if crosses(file, table, cells, Position(i as u16)) {
+            return rules::refuse(10, i);
         }
-        k += 1;
+        i += 1;
     }
     Verdict::Accepted
 }

@@ -12,19 +12,19 @@ use Rattle.board.proofs.controls.lowest_crossed.Statement.{statement}
 use Rattle.board.proofs.controls.lowest_crossed.Tie as tie
 
 abbrev Inv-loop : tie.InvT-loop
-Inv-loop file table cells k₀ k = Searched (cellsOf file) (crossed (boardOf file)) k
+Inv-loop file table cells i₀ i = Searched (cellsOf file) (crossed (boardOf file)) i
 
 abbrev μ-loop : tie.MeasureT-loop
-μ-loop file table cells k₀ k = cells - k
+μ-loop file table cells i₀ i = cells - i
 
 abbrev start : tie.At-loop Inv-loop μ-loop → tie.Start Inv-loop μ-loop
 start l = l .before .before
 
--- inside the loop k is one of the file's cells
-here : (c : tie.In-loop Inv-loop μ-loop) → c .before .loop .k < cellsOf (start (c .before) .args .file .now)
+-- inside the loop i is one of the file's cells
+here : (c : tie.In-loop Inv-loop μ-loop) → c .before .loop .i < cellsOf (start (c .before) .args .file .now)
 here c = let e = start (c .before) .pre .1 in let t = c .loop-test .taken in omega arith
 
-few : (c : tie.In-loop Inv-loop μ-loop) → c .before .loop .k < mostCells
+few : (c : tie.In-loop Inv-loop μ-loop) → c .before .loop .i < mostCells
 few c = cell-fits _ (start (c .before) .pre .0 .by-control .checked) _ (here c)
 
 returns : tie.Need-returns Inv-loop μ-loop
