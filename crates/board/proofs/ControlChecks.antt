@@ -48,7 +48,7 @@ Known b = (c : ℕ) → c < b .size → controlled b c ≡ true → (netOf (b .c
 -- a search over i's partners from i + 1 on: none up to j crosses i
 pub record Uncrossed (b : Board) (i j : ℕ) : Type 0 where
   pub higher : i < j
-  pub low : j ≤ 64 * cellWords
+  pub at-most : j ≤ 64 * cellWords
   pub none : (x : ℕ) → i < x → x < j → crosses b i x ≡ false
 
 module _ (file : List ℕ) (ok : judge (fileChecks file) ≡ Accepted) where
@@ -63,8 +63,8 @@ module _ (file : List ℕ) (ok : judge (fileChecks file) ≡ Accepted) where
       let e = eqb-true (netOf (board .cell (c .0))) n (left (onNet board n (c .0)) _ (c .2)) in
       rw e at (kept-net file (whole-records file ok) (c .0) (c .1) (or-left _ (right (onNet board n (c .0)) (c .2))))
 
-  pub drives-few : (k n : ℕ) → drives board k n ≡ true → n < mostNets
-  drives-few k n h = let l = drives-low k n h in let f = laid file (shaped file ok) .nets .at-most in omega arith
+  pub drives-fits : (k n : ℕ) → drives board k n ≡ true → n < mostNets
+  drives-fits k n h = let l = drives-low k n h in let f = laid file (shaped file ok) .nets .at-most in omega arith
 
   drives-control : (k n : ℕ) → drives board k n ≡ true → isControl board k ≡ true
   unfolding driverOf boardOf
@@ -135,7 +135,7 @@ module _ (file : List ℕ) (ok : judge (fileChecks file) ≡ Accepted) where
         let s = seek-lowest met l in
         let a = s .above in
         let u = s .under in
-        record { higher = omega arith; low = omega arith; none = λ x y z. unmet i x met e y (s .lower x (omega arith) (omega arith)) }
+        record { higher = omega arith; at-most = omega arith; none = λ x y z. unmet i x met e y (s .lower x (omega arith) (omega arith)) }
 
     pub search-on : (j : ℕ) → Uncrossed board i j → j < 64 * cellWords → crosses board i j ≡ false → next ≡ seek met (64 * cellWords - (j + 1)) (j + 1)
         → (j < next) × Uncrossed board i next
@@ -144,7 +144,7 @@ module _ (file : List ℕ) (ok : judge (fileChecks file) ≡ Accepted) where
         let a = s .above in
         let u = s .under in
         let w = v .higher in
-        (omega arith, record { higher = omega arith; low = omega arith; none = none-are s })
+        (omega arith, record { higher = omega arith; at-most = omega arith; none = none-are s })
       where
         none-are : Lowest met (j + 1) (64 * cellWords) (seek met (64 * cellWords - (j + 1)) (j + 1)) → (x : ℕ) → i < x → x < next → crosses board i x ≡ false
         none-are s x y z =

@@ -102,8 +102,8 @@ apart-counts by c x t l m =
     spliced-apart (linksFrom by) c x t _ _ (room by) l m (λ i p q r s. omega arith)
 
 module _ (file : List ℕ) (c : ℕ) (t : List ℕ) (so-far : Entered file c t) (l : c < cellsOf file) where
-  few : c < mostCells
-  few = let f = laid file (shaped file (so-far .by-net .checked)) .cells .at-most in omega arith
+  position-fits : c < mostCells
+  position-fits = let f = laid file (shaped file (so-far .by-net .checked)) .cells .at-most in omega arith
 
   pub enter-none : keyAt (boardOf file) NetOf c ≡ Nothing → Entered file (c + 1) t
   enter-none e =
@@ -127,17 +127,17 @@ module _ (file : List ℕ) (c : ℕ) (t : List ℕ) (so-far : Entered file c t) 
     netted-long = spliced-long (linksFrom NetOf) c n t ∙ so-far .long
 
     netted-control : Grown file ControlCell c (netted n)
-    netted-control = grown-same file ControlCell c t (netted n) (omega arith) (so-far .by-control) (net-apart-control c n t few net-fits)
+    netted-control = grown-same file ControlCell c t (netted n) (omega arith) (so-far .by-control) (net-apart-control c n t position-fits net-fits)
 
     netted-net : Grown file NetOf (c + 1) (netted n)
     netted-net = grown-add file NetOf c t (so-far .by-net) (let q = so-far .long in omega arith) l n e
 
     netted-counts : Counted file c (netted n)
-    netted-counts = counted-same file c t (netted n) (apart-counts NetOf c n t few net-fits) (so-far .counted)
+    netted-counts = counted-same file c t (netted n) (apart-counts NetOf c n t position-fits net-fits) (so-far .counted)
 
     -- where the stores stand
     pub output-fits : (c < mostCells) × (n < mostNets)
-    output-fits = (few, net-fits)
+    output-fits = (position-fits, net-fits)
 
     pub enter-output : driverAt (boardOf file) c ≡ driver.Nothing → Entered file (c + 1) (netted n)
     enter-output d =
@@ -160,14 +160,14 @@ module _ (file : List ℕ) (c : ℕ) (t : List ℕ) (so-far : Entered file c t) 
     both = spliced (linksFrom ControlCell) c (k .0) (netted (n .0))
 
     both-counts : Counted file c both
-    both-counts = counted-same file c (netted (n .0)) both (apart-counts ControlCell c (k .0) (netted (n .0)) few control-fits) (netted-counts (n .0) own)
+    both-counts = counted-same file c (netted (n .0)) both (apart-counts ControlCell c (k .0) (netted (n .0)) position-fits control-fits) (netted-counts (n .0) own)
 
     -- where the stores stand, and that one driver more fits
     pub driver-fits : (c < mostCells) × (n .0 < mostNets) × (k .0 < mostCells) × (countIn both (n .0) < mostCells)
     driver-fits =
-        let f = few in
+        let f = position-fits in
         let o = counts-few file c both both-counts (n .0) (net-fits (n .0) own) in
-        (few, net-fits (n .0) own, control-fits, omega arith)
+        (position-fits, net-fits (n .0) own, control-fits, omega arith)
 
     both-long : length both ≡ tableSize
     both-long = spliced-long (linksFrom ControlCell) c (k .0) (netted (n .0)) ∙ netted-long (n .0) own
@@ -178,7 +178,7 @@ module _ (file : List ℕ) (c : ℕ) (t : List ℕ) (so-far : Entered file c t) 
 
     both-net : Grown file NetOf (c + 1) both
     both-net =
-        grown-same file NetOf (c + 1) (netted (n .0)) both (omega arith) (netted-net (n .0) own) (control-apart-net c (k .0) (netted (n .0)) few control-fits)
+        grown-same file NetOf (c + 1) (netted (n .0)) both (omega arith) (netted-net (n .0) own) (control-apart-net c (k .0) (netted (n .0)) position-fits control-fits)
 
     pub enter-driver : Entered file (c + 1) (oneMore (n .0) both)
     enter-driver =
@@ -205,18 +205,18 @@ module _ (i v : ℕ) (t : List ℕ) (l : i < mostCells) where
 
 -- the link of a cell that drives nothing is free (linked-free), and lies apart from all else
 module _ (file t : List ℕ) (k v : ℕ) (h : Filled file t) (l : k < cellsOf file) where
-  free-few : k < mostCells
-  free-few = let f = laid file (shaped file (h .by-net .checked)) .cells .at-most in omega arith
+  free-fits : k < mostCells
+  free-fits = let f = laid file (shaped file (h .by-net .checked)) .cells .at-most in omega arith
 
   pub filled-free : driverAt (boardOf file) k ≡ driver.Nothing → v ≤ k → Filled file (set t (linksFrom ControlCell + k) v)
   filled-free d low =
-      let few = free-few in
+      let position-fits = free-fits in
       let fits : linksFrom ControlCell + k < length t = (let q = h .long in omega arith) in
       record {
         long = length-set t (linksFrom ControlCell + k) v ∙ h .long;
         by-control = record {
           checked = h .by-control .checked;
-          linked = linked-free (boardOf file) ControlCell _ t k v (no-control _ _ d) few low fits (h .by-control .linked);
+          linked = linked-free (boardOf file) ControlCell _ t k v (no-control _ _ d) position-fits low fits (h .by-control .linked);
         };
         by-net = grown-same file NetOf _ t _ (omega arith) (h .by-net) (stored-apart _ v t _ _ (λ j p q (e : j ≡ linksFrom ControlCell + k). omega arith));
         counted = counted-same file _ t _ (stored-apart _ v t _ _ (λ j p q (e : j ≡ linksFrom ControlCell + k). omega arith)) (h .counted);

@@ -14,20 +14,20 @@ abbrev start : tie.After-cell-named → tie.Start
 start c = c .before .before .before .before
 
 -- k fits the table
-few : (s : tie.Start) → s .args .k .0 < mostCells
-few s = cell-fits _ (s .pre .0 .checked) _ (s .pre .1 .1)
+fits : (s : tie.Start) → s .args .k .0 < mostCells
+fits s = cell-fits _ (s .pre .0 .checked) _ (s .pre .1 .1)
 
 -- the highest driver is one of the file's, and k's
 highest : (c : tie.After-cell-named) → Named (start c .args .file .now) ControlCell (start c .args .k .0) (c .cell-named .result .0)
 highest c =
     let z = c .before .if1 .left in
-    named-head _ _ _ (start c .pre .0) _ (few (start c)) _ _ (c .before .before .head .ensures) (omega arith) (c .cell-named .ensures)
+    named-head _ _ _ (start c .pre .0) _ (fits (start c)) _ _ (c .before .before .head .ensures) (omega arith) (c .cell-named .ensures)
 
 cell-named-requires : tie.Need-cell-named-requires
 cell-named-requires c κs =
     let s = c .before .before .before in
     let h = c .before .head .ensures in
-    let l = head-fits _ _ _ (s .pre .0) _ (few s) in
+    let l = head-fits _ _ _ (s .pre .0) _ (fits s) in
     let z = c .if1 .left in
     (omega arith, omega arith)
 
@@ -41,7 +41,7 @@ pub differ-spec : {M : Type 1} → statement M
 differ-spec =
     tie.close
     (tie.spec
-    (λ c κs. few (c .before))
+    (λ c κs. fits (c .before))
     (λ c. let p = c .before .before .before .pre in sym (idle-equal _ _ (p .0) _ (p .1 .1) (sym (c .before .head .ensures) ∙ c .if1 .taken)))
     cell-named-requires
     (λ c κs. (start c .pre .1 .0, (highest c .below, keyed-controlled _ _ _ (highest c .on))))

@@ -24,8 +24,8 @@ start l = l .before .before
 here : (c : tie.In-loop Inv-loop μ-loop) → c .before .loop .k < cellsOf (start (c .before) .args .file .now)
 here c = let e = start (c .before) .pre .1 in let t = c .loop-test .taken in omega arith
 
-few : (c : tie.In-loop Inv-loop μ-loop) → c .before .loop .k < mostCells
-few c = cell-fits _ (start (c .before) .pre .0 .by-control .checked) _ (here c)
+fits : (c : tie.In-loop Inv-loop μ-loop) → c .before .loop .k < mostCells
+fits c = cell-fits _ (start (c .before) .pre .0 .by-control .checked) _ (here c)
 
 returns : tie.Need-returns Inv-loop μ-loop
 returns c =
@@ -50,11 +50,11 @@ unequal-verdict-spec =
     Inv-loop
     μ-loop
     (λ c. search-start _ _)
-    (λ c. let f = few c in omega arith)
+    (λ c. let f = fits c in omega arith)
     (λ c κs. let p = start (c .before) .pre in (p .0 .by-control, (p .0 .counted, here c)))
-    (λ c κs. let f = few (c .before .before) in omega arith)
+    (λ c κs. let f = fits (c .before .before) in omega arith)
     returns
-    (λ c. let f = few (c .before .before) in omega arith)
+    (λ c. let f = fits (c .before .before) in omega arith)
     (λ c. let t = c .before .before .loop-test .taken in omega arith)
     loop-again
     returns-2)
