@@ -26,19 +26,20 @@ const FIRST_RECORD: usize = BLOCK_SIZE + HEAD_SIZE;
 
 const SPARE_BYTES: usize = BLOCK_SIZE - RECORD_SIZE * BLOCK_RECORDS;
 
-// NEAR_PART / NEAR_WHOLE, 1,561 / 131,072, is 1 / BLOCK_RECORDS and a little more.
-const NEAR_WHOLE: usize = 131072;
+// NEAR_PART / NEAR_WHOLE, 49,933 / 4,194,304, is 1 / BLOCK_RECORDS and a little more.
+const NEAR_WHOLE: u32 = 4194304;
 
-const NEAR_PART: usize = NEAR_WHOLE / BLOCK_RECORDS + 1;
+const NEAR_PART: u32 = NEAR_WHOLE / (BLOCK_RECORDS as u32) + 1;
 
 // The block of cells of position p, counted from 0: p / BLOCK_RECORDS by one product, since every record read asks
-// for it. That little more brings no position below mostCells into the next block, and first brings 2,603 there:
-// the proof, which computes, fails for a mostCells above 2,603.
+// for it. That little more brings no position below mostCells into the next block, and first brings 61,739 there:
+// the proof, which computes, fails for a mostCells above 61,739. The product fills 32 bits: of a wider one the
+// compiler masks the bits that it knows to be 0, at every record.
 fn block_of(p: Position) -> usize
     requires { ⌜ p .0 < mostCells ⌝ }
     ensures { λ r. ⌜ r ≡ p .0 / blockRecords ⌝ }
 {
-    p.0 as usize * NEAR_PART / NEAR_WHOLE
+    (p.0 as u32 * NEAR_PART / NEAR_WHOLE) as usize
 }
 
 // Where the record of position p begins: records follow each other, but for the spare bytes of the blocks between.
