@@ -7,8 +7,8 @@ use mathlib.Core.List.{List}
 use native.Mathlib.Numerals.{add-one}
 use native.Mathlib.Omega.{arith}
 use lib.Bits.{bitAnd, bitXor}
-use lib.ListN.{length, getD, set, length-set}
-use lib.Seq.{getD-set-same, getD-set-other}
+use lib.ListN.{length, getD, drop, set, length-set}
+use lib.Seq.{getD-set-same, getD-set-other, set-getD, getD-drop}
 use Rattle.base.specs.Digits.{bit, word}
 use Rattle.base.specs.Tests.{digit}
 use Rattle.base.proofs.DigitLaws.{word-same, word-bits, bit-word}
@@ -41,16 +41,31 @@ differs true false s r e f h = absurd (true≢false f)
 differs false b s r e f h = absurd (true≢false e)
 
 -- where no digit is both left and unlike, all stay
-pub all-stay : (left unlike : ℕ) (changing : ℕ → Bool) (table : List ℕ) (first : ℕ) → left < byteValues → bitAnd left unlike ≡ 0 → left ≡ word 8 (staying left unlike changing table first)
+all-stay :
+    (left unlike : ℕ) (changing : ℕ → Bool) (entries : List ℕ) →
+    left < byteValues →
+    bitAnd left unlike ≡ 0 →
+    left ≡ word 8 (staying left unlike changing entries)
 unfolding staying
-all-stay left unlike changing table first l e =
+all-stay left unlike changing entries l e =
     sym (word-bits 8 left l)
-    ∙ word-same 8 _ _ (λ i h. same (bit left i) (bit unlike i) (stray changing (getD table (first + i) 0)) (sym (bit-and left unlike i) ∙ ap (λ (x : ℕ). bit x i) e ∙ bit-zero i))
+    ∙ word-same 8 _ _ (λ i h. same (bit left i) (bit unlike i) (stray changing (getD entries i 0)) (apart i))
   where
+    apart : (i : ℕ) → (bit left i && bit unlike i) ≡ false
+    apart i = sym (bit-and left unlike i) ∙ ap (λ (x : ℕ). bit x i) e ∙ bit-zero i
+
     same : (a b s : Bool) → (a && b) ≡ false → a ≡ (a && not (b && s))
     same true true s h = absurd (true≢false h)
     same true false s h = refl
     same false b s h = refl
+
+pub byte-stays :
+    (left : List ℕ) (j unlike : ℕ) (changing : ℕ → Bool) (entries : List ℕ) →
+    getD left j 0 < byteValues →
+    bitAnd (getD left j 0) unlike ≡ 0 →
+    left ≡ set left j (word 8 (staying (getD left j 0) unlike changing entries))
+byte-stays left j unlike changing entries l e =
+    sym (set-getD left j 0) ∙ ap (set left j) (all-stay (getD left j 0) unlike changing entries l e)
 
 -- digit by digit
 pub word-next : (i kept r : ℕ) (f : ℕ → Bool) (s : Bool) → kept ≡ word i f → s ≡ f i → r ≡ kept + digit s * 2 ^ i → r ≡ word (i + 1) f
@@ -62,11 +77,11 @@ unfolding word
 word-start f = refl
 
 pub stays-at :
-    (left unlike i first : ℕ) (changing : ℕ → Bool) (table : List ℕ) (r : Bool) →
-    r ≡ (bit left i && not (bit unlike i && stray changing (getD table (first + i) 0))) →
-    r ≡ staying left unlike changing table first i
+    (left unlike i : ℕ) (changing : ℕ → Bool) (entries : List ℕ) (r : Bool) →
+    r ≡ (bit left i && not (bit unlike i && stray changing (getD entries i 0))) →
+    r ≡ staying left unlike changing entries i
 unfolding staying
-stays-at left unlike i first changing table r e = e
+stays-at left unlike i changing entries r e = e
 
 pub digits-all : (i kept : ℕ) (f : ℕ → Bool) → kept ≡ word i f → i ≡ 8 → kept ≡ word 8 f
 digits-all i kept f e h = e ∙ ap (λ (k : ℕ). word k f) h
@@ -141,7 +156,7 @@ left-upto {f} {before} {after} h e = subst (λ (x : ℕ). Left f before x after)
 sifted :
     (capture table after : List ℕ) (at other j x unlike : ℕ) (changing : ℕ → Bool) →
     unlike ≡ bitXor (getD capture (at + j) 0) (getD capture (other + j) 0) →
-    x ≡ word 8 (staying (getD after j 0) unlike changing table (8 * j)) →
+    x ≡ word 8 (staying (getD after j 0) unlike changing (drop (8 * j) table)) →
     (i : ℕ) →
     i < 8 →
     bit x i ≡ (bit (getD after j 0) i && not (strayAt capture at other changing table (8 * j + i)))
@@ -151,17 +166,17 @@ sifted capture table after at other j x unlike changing u e i l =
     let s : (8 * j + i) % 8 ≡ i = omega arith in
     ap (λ (y : ℕ). bit y i) e
     ∙ bit-word 8 _ i l
-    ∙ rw (q, s, u, bit-xor)
+    ∙ rw (getD-drop, q, s, u, bit-xor)
 
 pub left-byte :
-    (capture table before after : List ℕ) (at other j : ℕ) (changing : ℕ → Bool) (x unlike : ℕ) →
-    Left (strayAt capture at other changing table) before (8 * j) after →
+    (capture table before between after : List ℕ) (at other j : ℕ) (changing : ℕ → Bool) (unlike : ℕ) →
+    Left (strayAt capture at other changing table) before (8 * j) between →
     j < length before →
     unlike ≡ bitXor (getD capture (at + j) 0) (getD capture (other + j) 0) →
-    x ≡ word 8 (staying (getD after j 0) unlike changing table (8 * j)) →
-    Left (strayAt capture at other changing table) before (8 * (j + 1)) (set after j x)
-left-byte capture table before after at other j changing x unlike m l u e =
-    left-more (strayAt capture at other changing table) before after j x m l (sifted capture table after at other j x unlike changing u e)
+    after ≡ set between j (word 8 (staying (getD between j 0) unlike changing (drop (8 * j) table))) →
+    Left (strayAt capture at other changing table) before (8 * (j + 1)) after
+left-byte capture table before between after at other j changing unlike m l u e =
+    rw e (left-more _ before between j _ m l (sifted capture table between at other j _ unlike changing u refl))
 
 pub left-changing :
     (capture table before after : List ℕ) (at other n : ℕ) (f g : ℕ → Bool) →

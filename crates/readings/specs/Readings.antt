@@ -42,9 +42,9 @@ unfoldable pub stray : (ℕ → Bool) → ℕ → Bool
 stray changing zero = true
 stray changing (suc n) = not (changing n)
 
--- digit i of a byte of cells that stay, of those from `first` on, where these digits differ between two rows
-unfoldable pub staying : ℕ → ℕ → (ℕ → Bool) → List ℕ → ℕ → ℕ → Bool
-staying left unlike changing table first i = bit left i && not (bit unlike i && stray changing (getD table (first + i) 0))
+-- digit i of a byte of cells that stay, where these digits differ between two rows and these are the cells' entries
+unfoldable pub staying : ℕ → ℕ → (ℕ → Bool) → List ℕ → ℕ → Bool
+staying left unlike changing entries i = bit left i && not (bit unlike i && stray changing (getD entries i 0))
 
 -- the cell at c reads otherwise in the row from `other` on than in that from `at` on, and its entry names no net that changes between them
 unfoldable pub strayAt : List ℕ → ℕ → ℕ → (ℕ → Bool) → List ℕ → ℕ → Bool
@@ -82,8 +82,9 @@ pub record Left (lost : ℕ → Bool) (before : List ℕ) (n : ℕ) (after : Lis
   pub done : (c : ℕ) → c < n → rowBit after 0 c ≡ (rowBit before 0 c && not (lost c))
   pub rest : (c : ℕ) → n ≤ c → rowBit after 0 c ≡ rowBit before 0 c
 
--- the capture has a row of so many cells from `at` on
+-- the capture has a row of so many cells from `at` on, no more than a board has
 pub record Scanned (capture : List ℕ) (at cells : ℕ) : Type 0 where
+  pub few : cells ≤ mostCells
   pub inside : at + rowBytes cells ≤ length capture
 
 -- a code of two bytes with room for one bit more

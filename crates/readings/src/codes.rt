@@ -10,6 +10,7 @@ ghost use Rattle.readings.specs.Readings.{codeFrom, mostHalf, Mapped, Sc
 use crate::scan::seen;
 use plan::steps::Plan;
 use plan::steps::extra_after;
+use rules::Position;
 
 // A code with one bit more.
 fn add_digit(read: bool, code: u16) -> u16
@@ -30,7 +31,7 @@ fn add_row(capture: &[u8], at: usize, cells: usize, table: &mut [u16])
 {
     let mut c = 0;
     while c < cells {
-        table[c] = add_digit(seen(capture, at, c), table[c]);
+        table[c] = add_digit(seen(capture, at, Position(c as u16)), table[c]);
         c += 1;
     }
 }

@@ -2,13 +2,14 @@
 ghost use mathlib.Core.Path.{_≡_};
 ghost use Prim.Native.Nat.{_<_, _≤_, _*_, _+_, _/_, _^_};
 ghost use mathlib.Core.Bool.{_&&_, not};
-ghost use lib.ListN.{length};
+ghost use lib.ListN.{length, getD, set};
 ghost use Rattle.base.specs.Digits.{bit, word};
 ghost use Rattle.base.specs.Tests.{digit};
 ghost use Rattle.words.specs.Sets.{netWords, member};
 ghost use Rattle.rules.specs.Rows.{rowBit};
 ghost use Rattle.readings.specs.Readings.{stray, staying, strayAt, Left, Entries, Lent};
 use rules::Net;
+use rules::Position;
 use words::NetSet;
 
 // Digit i of a byte, from the least.
@@ -20,11 +21,12 @@ fn digit_at(byte: u8, i: usize) -> bool
 }
 
 // What the cell at c read in the row from `at` on.
-pub(crate) fn seen(capture: &[u8], at: usize, c: usize) -> bool
-    requires { ⌜ at + c / 8 < length (now capture) ⌝ }
-    ensures { λ r. ⌜ r ≡ rowBit (now (capture .entry)) at c ⌝ }
+pub(crate) fn seen(capture: &[u8], at: usize, c: Position) -> bool
+    requires { ⌜ at + c .0 / 8 < length (now capture) ⌝ }
+    ensures { λ r. ⌜ r ≡ rowBit (now (capture .entry)) at (c .0) ⌝ }
 {
-    digit_at(capture[at + c / 8], c % 8)
+    let place = c.0 as usize;
+    digit_at(capture[at + place / 8], place % 8)
 }
 
 // A cell of this entry may not change its reading where these nets change: it names none of them.
@@ -64,21 +66,32 @@ fn stays(left: u8, unlike: u8, i: usize, entry: u16, changing: NetSet) -> bool
     false
 }
 
-// The byte of cells that are left of those from `first` on, where these bits differ between two rows.
-fn sift(left: u8, unlike: u8, table: &[u16], first: usize, changing: NetSet) -> u8
-    requires { ⌜ Entries (64 * netWords) (first + 8) (now table) ⌝ }
-    ensures { λ r. ⌜ r ≡ word 8 (staying left unlike (member (changing .words)) (now (table .entry)) first) ⌝ }
+// The byte of cells that are left, where these bits differ between two rows and these are the cells' entries.
+fn sift(left: u8, unlike: u8, entries: &[u16], changing: NetSet) -> u8
+    requires { ⌜ Entries (64 * netWords) 8 (now entries) ⌝ }
+    ensures { λ r. ⌜ r ≡ word 8 (staying left unlike (member (changing .words)) (now (entries .entry))) ⌝ }
 {
-    if left & unlike == 0 {
-        return left;
-    }
     let mut kept = 0;
     let mut i = 0;
     while i < 8 {
-        kept = with_digit(kept, i, stays(left, unlike, i, table[first + i], changing));
+        kept = with_digit(kept, i, stays(left, unlike, i, entries[i], changing));
         i += 1;
     }
     kept
+}
+
+// Byte j of the cells that are left, where these bits differ between two rows and these are the cells' entries. Most bytes stay, and are
+// not written.
+fn sift_byte(left: &mut [u8], j: usize, unlike: u8, entries: &[u16], changing: NetSet)
+    requires { ⌜ j < length (now left) ⌝ }
+    requires { ⌜ Entries (64 * netWords) 8 (now entries) ⌝ }
+    ensures { λ r. ⌜ now (left .exit) ≡ set (now (left .entry)) j (word 8 (staying (getD (now (left .entry)) j 0) unlike (member (changing .words)) (now (entries .entry)))) ⌝ }
+{
+    let byte = left[j];
+    if byte & unlike == 0 {
+        return;
+    }
+    left[j] = sift(byte, unlike, entries, changing);
 }
 
 // Two rows of a capture to be held against each other, by where they begin. Two numbers are handed over in registers, three are not.
@@ -103,7 +116,8 @@ pub(crate) fn check_rows(
     let mut j = 0;
     while j < bytes {
         let unlike = capture[rows.at + j] ^ capture[rows.other + j];
-        left[j] = sift(left[j], unlike, table, 8 * j, changing);
+        let first = 8 * j;
+        sift_byte(left, j, unlike, &table[first..], changing);
         j += 1;
     }
 }

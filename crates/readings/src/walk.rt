@@ -8,7 +8,7 @@ ghost use Rattle.base.specs.Tests.{any};
 ghost use Rattle.rules.specs.Rows.{rowBytes, rowBit};
 ghost use Rattle.rules.specs.Refusals.{mostVectors};
 ghost use Rattle.words.specs.Sets.{member, unlike};
-ghost use Rattle.readings.specs.Readings.{period, strayAt, strayAfter, strayIn, otherLater, lost, Mapped, Entries, Left, Captured, Rowed, Later, Lent, Part, Read};
+ghost use Rattle.readings.specs.Readings.{period, strayAt, strayAfter, strayIn, otherLater, lost, Mapped, Entries, Left, Scanned, Captured, Rowed, Later, Lent, Part, Read};
 use crate::codes::own_codes;
 use crate::codes::read_codes;
 use crate::scan::Rows;
@@ -21,6 +21,7 @@ use plan::steps::total;
 use plan::values::mixed;
 use rows::bytes::row_bytes;
 use rules::MOST_BYTES;
+use rules::Position;
 use words::NetSet;
 
 // Vector t of a capture, each of whose rows has so many bytes.
@@ -169,13 +170,13 @@ fn entry_left(left: bool, entry: u16) -> u16
 
 // The entries of the cells that are left; the others become 0.
 fn clear(cells: usize, left: &[u8], table: &mut [u16])
-    requires { ⌜ rowBytes cells ≤ length (now left) ⌝ }
+    requires { ⌜ Scanned (now left) 0 cells ⌝ }
     requires { ⌜ cells ≤ length (now table) ⌝ }
     ensures { λ r. ⌜ Mapped (λ c entry. cond (rowBit (now (left .entry)) 0 c) entry 0) (now (table .entry)) cells (now (table .exit)) ⌝ }
 {
     let mut c = 0;
     while c < cells {
-        table[c] = entry_left(seen(left, 0, c), table[c]);
+        table[c] = entry_left(seen(left, 0, Position(c as u16)), table[c]);
         c += 1;
     }
 }

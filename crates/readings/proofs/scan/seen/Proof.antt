@@ -11,4 +11,5 @@ unfolding rowBit byteAt
 returns c = c .digit-at .ensures
 
 pub seen-spec : {M : Type 1} → statement M
-seen-spec = tie.close (tie.spec (λ c. search needs) (λ c. search needs) (λ c κs. omega arith) returns)
+seen-spec =
+    tie.close (tie.spec (λ c. search needs) (λ c. search needs) (λ c. search needs) (λ c κs. omega arith) returns)

@@ -1,47 +1,58 @@
--- Digit by digit, where any digit is both left and unlike.
-use Prim.Native.Nat.{_-_, _≤_}
+-- Digit by digit.
+use Prim.Native.Nat.{ℕ, _-_, _≤_}
 use mathlib.Core.Path.{_≡_}
+use mathlib.Core.Bool.{Bool}
 use native.Mathlib.Omega.{arith}
 use borrow.Author.Needs.{needs}
 use Rattle.base.specs.Digits.{word}
 use Rattle.base.proofs.DigitLaws.{word-lt}
 use Rattle.words.specs.Sets.{member}
 use Rattle.readings.specs.Readings.{staying}
-use Rattle.readings.proofs.LeftLaws.{all-stay, word-next, word-start, stays-at, digits-all}
+use Rattle.readings.proofs.LeftLaws.{word-next, word-start, stays-at, digits-all}
 use Rattle.readings.proofs.scan.sift.Statement.{statement}
 use Rattle.readings.proofs.scan.sift.Tie as tie
 
 abbrev Inv-loop : tie.InvT-loop
-Inv-loop left unlike table first changing kept₀ i₀ kept i = (i ≤ 8) × (kept ≡ word i (staying left unlike (member (changing .words)) table first))
+Inv-loop left unlike entries changing kept₀ i₀ kept i =
+    (i ≤ 8) × (kept ≡ word i (staying left unlike (member (changing .words)) entries))
 
 abbrev μ-loop : tie.MeasureT-loop
-μ-loop left unlike table first changing kept₀ i₀ kept i = 8 - i
+μ-loop left unlike entries changing kept₀ i₀ kept i = 8 - i
 
-returns : tie.Need-returns Inv-loop μ-loop
-returns c = all-stay _ _ _ _ _ (let f = c .before .before .fits .left .fits in omega arith) (c .if1 .taken)
+-- the places: the entry, as seen from the loop, and a round's beginning, as seen from where its digit was told
+abbrev entry : tie.At-loop Inv-loop μ-loop → tie.Start Inv-loop μ-loop
+entry l = l .before .before
 
-loop-holds : tie.Need-loop-holds Inv-loop μ-loop
-loop-holds c = (omega arith, word-start _)
+abbrev begun : tie.After-stays Inv-loop μ-loop → tie.In-loop Inv-loop μ-loop
+begun d = d .before .before
+
+-- the digits that stay
+abbrev kept : tie.Start Inv-loop μ-loop → ℕ → Bool
+kept s =
+    let a = s .args in
+    staying (a .left) (a .unlike) (member (a .changing .words)) (a .entries .now)
 
 stays-requires : tie.Need-stays-requires Inv-loop μ-loop
 stays-requires c κs =
-    let t = c .before .loop-test .taken in
-    (t, c .before .before .before .before .before .pre .entries-bounded _ (omega arith))
+    let d = c .before in
+    let t = d .loop-test .taken in
+    (t, entry (d .before) .pre .entries-bounded _ (omega arith))
 
 with-digit-requires : tie.Need-with-digit-requires Inv-loop μ-loop
 with-digit-requires c κs =
-    let inv = c .before .before .before .loop .inv in
-    let w = word-lt (c .before .before .before .loop .i) (staying (c .before .before .before .before .before .before .args .left) (c .before .before .before .before .before .before .args .unlike) (member (c .before .before .before .before .before .before .args .changing .words)) (c .before .before .before .before .before .before .args .table .now) (c .before .before .before .before .before .before .args .first)) in
-    (c .before .before .loop-test .taken, omega (arith, inv .1))
+    let d = begun c in
+    let l = d .before in
+    let low = word-lt (l .loop .i) (kept (entry l)) in
+    (d .loop-test .taken, omega (arith, l .loop .inv .1))
 
 loop-again : tie.Need-loop-again Inv-loop μ-loop
 loop-again c =
-    let t = c .before .before .before .loop-test .taken in
-    let inv = c .before .before .before .before .loop .inv in
-    (omega arith, word-next _ _ _ _ _ (inv .1) (stays-at _ _ _ _ _ _ _ (c .before .stays .ensures)) (c .with-digit .ensures))
+    let d = begun (c .before) in
+    let t = d .loop-test .taken in
+    (omega arith, word-next _ _ _ _ _ (d .before .loop .inv .1) (stays-at _ _ _ _ _ _ (c .before .stays .ensures)) (c .with-digit .ensures))
 
-returns-2 : tie.Need-returns-2 Inv-loop μ-loop
-returns-2 c =
+returns : tie.Need-returns Inv-loop μ-loop
+returns c =
     let inv = c .before .loop .inv in
     let l = inv .0 in
     let t = c .loop-test .left in
@@ -50,4 +61,15 @@ returns-2 c =
 pub sift-spec : {M : Type 1} → statement M
 sift-spec =
     tie.close
-    (tie.spec Inv-loop μ-loop returns loop-holds (λ c. let l = c .before .before .before .before .pre .long in omega (arith, c .loop-test .taken)) (λ c. search needs) (λ c. let l = c .before .before .before .before .before .pre .long in omega (arith, c .before .loop-test .taken)) stays-requires with-digit-requires (λ c. omega (arith, c .before .before .before .loop-test .taken)) (λ c. omega (arith, c .before .before .before .loop-test .taken)) loop-again returns-2)
+    (tie.spec
+    Inv-loop
+    μ-loop
+    (λ c. (omega arith, word-start _))
+    (λ c. search needs)
+    (λ c. let d = c .before in let l = entry (d .before) .pre .long in omega (arith, d .loop-test .taken))
+    stays-requires
+    with-digit-requires
+    (λ c. omega (arith, begun (c .before) .loop-test .taken))
+    (λ c. omega (arith, begun (c .before) .loop-test .taken))
+    loop-again
+    returns)
