@@ -8,7 +8,10 @@ use borrow.Author.Tests.{eqb-true, eq-eqb, ltb-true, ltb-false}
 use lib.Dec.{eqb, ltb}
 
 -- a test either passes or fails
-pub decided : (a : Bool) → (a ≡ true) ⊎ (a ≡ false)
+abbrev pub Decided : Bool → Type 0
+Decided a = (a ≡ true) ⊎ (a ≡ false)
+
+pub decided : (a : Bool) → Decided a
 decided true = inl refl
 decided false = inr refl
 

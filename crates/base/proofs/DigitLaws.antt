@@ -3,7 +3,8 @@ use Prim.Native.Nat.{ℕ, zero, suc, _+_, _*_, _^_, _<_, _-_, _%_, _≤_, _/_}
 use mathlib.Core.Path.{_≡_, refl, ap₂, _∙_, sym}
 use mathlib.Core.Logic.{⊎-elim}
 use mathlib.Core.Bool.{Bool, true, false}
-use native.Mathlib.Nat.{two-pow-succ, zero-mul, div-eq-of-lt, mul-assoc, pow-suc, add-mul-div-right, add-mul-mod-self-right, pow-succ', mod-one, mod-eq-of-lt, lt-div-mul-add, suc-mul, div-mul-le-self, mul-le-mul-left, eq-zero-or-pos, mul-one}
+use native.Mathlib.Nat.{two-pow-succ, pow-suc, pow-succ', zero-mul, mul-one, suc-mul, mul-assoc, mul-le-mul-left, eq-zero-or-pos}
+use native.Mathlib.Nat.{div-eq-of-lt, div-mul-le-self, lt-div-mul-add, add-mul-div-right, add-mul-mod-self-right, mod-one, mod-eq-of-lt}
 use native.Mathlib.Numerals.{sub-one}
 use native.Mathlib.Omega.{arith}
 use lib.Pow.{pow-pos, pow-add, pow-mono}

@@ -80,7 +80,12 @@ seek-left p (suc left) i = go (p i) refl (seek-left p left (suc i))
     go true e r =
         record { above = omega arith; under = omega arith; passes = λ h. e; lower = λ j l h. absurd (omega arith) }
     go false e r =
-        record { above = let a = r .above in omega arith; under = let a = r .under in omega arith; passes = λ h. r .passes (omega arith); lower = λ j l h. ⊎-elim (λ (q : i ≡ j). rw (← q) e) (λ (q : i < j). r .lower j q h) (eq-or-lt-of-le l) }
+        record {
+          above = let a = r .above in omega arith;
+          under = let a = r .under in omega arith;
+          passes = λ h. r .passes (omega arith);
+          lower = λ j l h. ⊎-elim (λ (q : i ≡ j). rw (← q) e) (λ (q : i < j). r .lower j q h) (eq-or-lt-of-le l);
+        }
 
 pub seek-lowest : (p : ℕ → Bool) {from to : ℕ} → from ≤ to → Lowest p from to (seek p (to - from) from)
 seek-lowest p {from} {to} h =
