@@ -1,6 +1,6 @@
 -- Counting by a one-to-one map: two tests that it carries onto each other pass equally often. The idea: take one member away on either side.
 use Prim.Native.Nat.{ℕ, zero, suc, _+_, _<_}
-use mathlib.Core.Path.{_≡_, refl, sym, _∙_, ap}
+use mathlib.Core.Path.{_≡_, sym, _∙_, ap}
 use mathlib.Core.Logic.{⊎-elim}
 use mathlib.Core.Bool.{Bool, not, _&&_, true, false, and-true, and-false}
 use native.Mathlib.Omega.{arith}

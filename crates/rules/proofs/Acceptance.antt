@@ -43,5 +43,14 @@ unfolding earlyChecks shapeChecks fileChecks netChecks boardOf outside undriven 
 early file e =
     let h = all-pass (earlyChecks file) e in
     let limits = passes-not _ (h .1 .1 .1 .0 0 (omega arith)) in
+    let limit = right (within mostCells (cellsOf file) && within mostNets (netsOf file)) limits in
     let whole = h .1 .1 .1 .1 .1 .0 in
-    record { has-limit = limit-within mostLimit (limitOf file) (right (within mostCells (cellsOf file) && within mostNets (netsOf file)) limits) .0; own-control = kept-control file whole; own-net = kept-net file whole; driven = λ n l. passes-not _ (h .1 .1 .1 .1 .1 .1 .0 n l); no-clash = λ n c d l m k. any-none _ _ (any-none _ _ (h .1 .1 .1 .1 .1 .1 .1 .0 n l) m) k; drivers-bounded = λ n l. ltb-false _ _ (h .1 .1 .1 .1 .1 .1 .1 .1 .0 n l) }
+    let nets = h .1 .1 .1 .1 .1 .1 in
+    record {
+      has-limit = limit-within mostLimit (limitOf file) limit .0;
+      own-control = kept-control file whole;
+      own-net = kept-net file whole;
+      driven = λ n l. passes-not _ (nets .0 n l);
+      no-clash = λ n c d l m k. any-none _ _ (any-none _ _ (nets .1 .0 n l) m) k;
+      drivers-bounded = λ n l. ltb-false _ _ (nets .1 .1 .0 n l);
+    }

@@ -10,19 +10,18 @@ use Rattle.rules.specs.declared.Verdict.the-variants.{Accepted}
 use Rattle.rules.proofs.Verdicts.{judge-passes, judge-applies, all-pass}
 use Rattle.base.proofs.TestLaws.{Searched, search-start, search-next}
 
--- the place fails: it is the lowest
-pub found : (number : ℕ) {places : ℕ} {fails : ℕ → Bool} {i : ℕ} (checks : List Check) → Searched places fails i → i < places → fails i ≡ true → judge (each number places fails ∷ checks) ≡ refuse number i
-found number {places} {fails} checks s l e =
-    judge-applies (each number places fails) checks (record { within = l; applies = e; lowest = s .lower })
+module _ (number : ℕ) {places : ℕ} {fails : ℕ → Bool} {i : ℕ} where
+  -- the place fails: it is the lowest
+  pub found : (checks : List Check) → Searched places fails i → i < places → fails i ≡ true → judge (each number places fails ∷ checks) ≡ refuse number i
+  found checks s l e = judge-applies (each number places fails) checks (record { within = l; applies = e; lowest = s .lower })
 
--- no place is left: the list goes on, and at its end it accepts
-pub ended-then : (number : ℕ) {places : ℕ} {fails : ℕ → Bool} {i : ℕ} (checks : List Check) → Searched places fails i → places ≤ i → judge (each number places fails ∷ checks) ≡ judge checks
-ended-then number {places} {fails} checks s m =
-    judge-passes (each number places fails) checks (λ j l. s .lower j (omega arith))
+  -- no place is left: the list goes on, and at its end it accepts
+  pub ended-then : (checks : List Check) → Searched places fails i → places ≤ i → judge (each number places fails ∷ checks) ≡ judge checks
+  ended-then checks s m = judge-passes (each number places fails) checks (λ j l. s .lower j (omega arith))
 
-pub ended : (number : ℕ) {places : ℕ} {fails : ℕ → Bool} {i : ℕ} → Searched places fails i → places ≤ i → judge (each number places fails ∷ []) ≡ Accepted
-unfolding judge
-ended number s m = ended-then number [] s m
+  pub ended : Searched places fails i → places ≤ i → judge (each number places fails ∷ []) ≡ Accepted
+  unfolding judge
+  ended s m = ended-then [] s m
 
 -- no place fails: the list goes on
 pub none-fails : (number : ℕ) {places : ℕ} {fails : ℕ → Bool} (checks : List Check) → ((i : ℕ) → i < places → fails i ≡ false) → judge (each number places fails ∷ checks) ≡ judge checks

@@ -1,7 +1,7 @@
 -- The theorem about codes. The idea: a code below 2 ^ p is the word of its p digits, so one that is not a given word has a digit of its own.
 use Prim.Native.Nat.{ℕ, _+_, _-_, _^_, _≤_, _<_}
 use mathlib.Core.Path.{_≡_, sym, _∙_}
-use mathlib.Core.Logic.{_⊎_, inl, inr, ⊎-elim}
+use mathlib.Core.Logic.{inl, inr, ⊎-elim}
 use mathlib.Core.Bool.{Bool, true, false, Bool·beq}
 use native.Mathlib.Nat.{eq-or-lt-of-le}
 use native.Mathlib.Omega.{arith}
@@ -9,7 +9,7 @@ use borrow.Author.Tests.{leb-true, leb-false}
 use lib.Dec.{leb}
 use Rattle.base.specs.Tests.{all}
 use Rattle.base.specs.Digits.{bit, word}
-use Rattle.base.proofs.BoolLaws.{decided, passes-if, fails-if, beq-true, beq-false}
+use Rattle.base.proofs.BoolLaws.{Decided, decided, passes-if, fails-if, beq-true, beq-false}
 use Rattle.base.proofs.TestLaws.{all-at, all-fails, Lowest, least-lowest}
 use Rattle.base.proofs.DigitLaws.{word-same, word-bits, word-none, word-full, below-pow}
 use Rattle.rules.specs.Vectors.{codeWidth, codeBit}
@@ -42,7 +42,7 @@ code-not p i f h n = go (decided (all p same))
         let back : p - (p - (q + 1) + 1) ≡ q = omega arith in
         rw back at (beq-true (codeBit p (p - (q + 1)) i) (f (p - (p - (q + 1) + 1))) (all-at p same e {i = p - (q + 1)} (omega arith)))
 
-    go : (all p same ≡ true) ⊎ (all p same ≡ false) → (k : ℕ) × (k < p) × (codeBit p k i ≡ f (p - (k + 1)) → ⊥)
+    go : Decided (all p same) → (k : ℕ) × (k < p) × (codeBit p k i ≡ f (p - (k + 1)) → ⊥)
     go (inl e) = absurd (n (sym (word-bits p (i + 1) (omega arith)) ∙ word-same p (bit (i + 1)) f (at e)))
     go (inr e) =
         let m = all-fails p same e in
@@ -78,4 +78,10 @@ pub record NetCodes (nets : ℕ) : Type 0 where
 pub net-codes : (nets : ℕ) → NetCodes nets
 net-codes nets =
     let w = width-least nets in
-    record { wide = w .0; narrow = w .1; differ = λ i j hi hj. codes-differ (codeWidth nets) i j (omega arith) (omega arith); holds-one = λ i h. code-holds-one (codeWidth nets) i (omega arith); holds-zero = λ i h. code-holds-zero (codeWidth nets) i (omega arith) }
+    record {
+      wide = w .0;
+      narrow = w .1;
+      differ = λ i j hi hj. codes-differ (codeWidth nets) i j (omega arith) (omega arith);
+      holds-one = λ i h. code-holds-one (codeWidth nets) i (omega arith);
+      holds-zero = λ i h. code-holds-zero (codeWidth nets) i (omega arith);
+    }

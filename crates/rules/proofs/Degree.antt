@@ -16,7 +16,11 @@ unfolding degree drivers controls driverOf
 degree-drivers b early n l =
     sym
     (count-onto (b .size) (b .size) (driverOf b n) (controls b n) (controlFor b)
-    (record { into = λ c m h. let own = early .own-control c m (right (onNet b n c) h) in (own .0, both (own .1) (driver-drives b n c m h)); once = λ c d m k x y e. driver-alone b early n c d l m k x y e; hit = λ k m h. drives-driver b k n (right (isControl b k) h) }))
+    (record {
+      into = λ c m h. let own = early .own-control c m (right (onNet b n c) h) in (own .0, both (own .1) (driver-drives b n c m h));
+      once = λ c d m k x y e. driver-alone b early n c d l m k x y e;
+      hit = λ k m h. drives-driver b k n (right (isControl b k) h);
+    }))
 
 -- "a net with a kind 4 output has degree 0"
 pub always-on-degree : (b : Board) → Early b → (n c : ℕ) → n < b .nets → c < b .size → outputOf b n c ≡ true → alwaysOn b c ≡ true → degree b n ≡ 0

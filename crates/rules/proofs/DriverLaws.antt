@@ -2,7 +2,7 @@
 -- definitions, and everything else cites it. Laws that request [3], open-drain outputs, breaks say so.
 use Prim.Native.Nat.{ℕ, _<_}
 use mathlib.Core.Path.{_≡_, refl, sym, _∙_, ap}
-use mathlib.Core.Logic.{_⊎_, ⊎-elim}
+use mathlib.Core.Logic.{⊎-elim}
 use mathlib.Core.Bool.{Bool, true, false, _||_, and-true, and-false}
 use mathlib.Core.List.{List}
 use native.Mathlib.Omega.{arith}
@@ -125,7 +125,9 @@ module _ (file : List ℕ) (whole : (p : ℕ) → p < cellsOf file → brokenAt 
   unfolding boardOf brokenAt
   says p l = record-says file p (whole p l)
 
-  pub kept-control : (c : ℕ) → c < boardOf file .size → controlled (boardOf file) c ≡ true → (controlFor (boardOf file) c < boardOf file .size) × (isControl (boardOf file) (controlFor (boardOf file) c) ≡ true)
+  pub kept-control :
+      (c : ℕ) → c < boardOf file .size → controlled (boardOf file) c ≡ true →
+      (controlFor (boardOf file) c < boardOf file .size) × (isControl (boardOf file) (controlFor (boardOf file) c) ≡ true)
   unfolding boardOf isControl ofKind2
   kept-control c l h =
       let s = says c l in

@@ -1,5 +1,5 @@
 -- Document 01's figures marked P, as one table with one claim, which antt computes. Board E is a file's bytes.
-use Prim.Native.Nat.{ℕ, zero, suc, _+_, _-_, _/_, _%_}
+use Prim.Native.Nat.{ℕ, zero, suc, _-_, _/_, _%_}
 use mathlib.Core.Path.{_≡_, refl}
 use mathlib.Core.Bool.{Bool, true, false, cond, xor, _&&_}
 use mathlib.Core.List.{List, [], _∷_, _++_, map}
@@ -11,15 +11,20 @@ use Rattle.base.specs.Lists.{table, has}
 use Rattle.base.specs.Digits.{ceil, bit, word}
 use Rattle.base.specs.Weave.{weave}
 use Rattle.rules.specs.Rows.{rowBytes, rowByte, rowOf, rowBit}
-use Rattle.rules.specs.File.{Board, byteAt, numberAt, added, sumsFrom, sumsOf, blocksIn, blockAt, sumsRight, zeros, headRight, headerRight, cellsOf, netsOf, limitOf, recordsIn, cellBlockRight, recordAt, kindAt, onAt, controlAt, netAt, ofKind2, tableOf, recordOf, brokenAt, kindOf, onValueOf, controlOf, netOf, boardOf, summed, none}
+use Rattle.rules.specs.File.{byteAt, numberAt, added, summed, sumsFrom, sumsOf, blocksIn, blockAt, sumsRight, zeros, headRight, headerRight}
+use Rattle.rules.specs.File.{cellsOf, netsOf, limitOf, recordsIn, cellBlockRight, recordAt, kindAt, onAt, controlAt, netAt, none}
+use Rattle.rules.specs.File.{ofKind2, tableOf, recordOf, brokenAt, kindOf, onValueOf, controlOf, netOf, Board, boardOf}
 use Rattle.rules.specs.declared.Sums.{Sums}
 use Rattle.rules.specs.declared.Cell.{Cell}
 use Rattle.rules.specs.declared.Cell.the-variants.{Internal, Control, ThreeState}
-use Rattle.rules.specs.Drivers.{driverIn, driverAt, isDriver, controlIn, controlled, controlFor, isControl, alwaysOn, isInput, onNet, outputOf, driverOf, drives, drivers, controls, degree, meets, inside, crosses, groupsOf}
+use Rattle.rules.specs.Drivers.{driverIn, driverAt, isDriver, controlIn, controlled, controlFor, isControl, alwaysOn, isInput}
+use Rattle.rules.specs.Drivers.{onNet, outputOf, driverOf, drives, drivers, controls, degree, meets, inside, crosses, groupsOf}
 use Rattle.rules.specs.Groups.{marked, turn, pass, firstPass, secondPass, selected, earlier, group, onIn}
 use Rattle.rules.specs.Vectors.{codeWidth, codeBit, widthOf, patternOf, basesOf, differs, changes, insertedAfter, between, stepsOf, vectorOf, planOf, totalOf, vectorAt, cellBit, vectorRow}
 use Rattle.rules.specs.Marks.{readAt, ownAt, differsAt, inputOf, unseen, failed, readTwice, rowsOf, firstGiven, markOf, byteOf, marksOf}
-use Rattle.rules.specs.Refusals.{judge, numberOf, placeOf, wrongLength, within, outside, blocksFor, blockWrong, undriven, clash, clashing, crowded, crossed, unequal, shapeChecks, fileChecks, netChecks, controlChecks, earlyChecks, boardChecks}
+use Rattle.rules.specs.Refusals.{judge, numberOf, placeOf, wrongLength, within, outside, blocksFor, blockWrong}
+use Rattle.rules.specs.Refusals.{undriven, clash, clashing, crowded, crossed, unequal}
+use Rattle.rules.specs.Refusals.{shapeChecks, fileChecks, netChecks, controlChecks, earlyChecks, boardChecks}
 
 -- a number's two bytes
 two : ℕ → List ℕ
@@ -40,7 +45,18 @@ fileE : ℕ → List ℕ
 fileE limit =
     block (two 0 ++ (1 ∷ 0 ∷ 66 ∷ 83 ∷ 73 ∷ 78 ∷ 1 ∷ 0 ∷ []) ++ two 11 ++ two 3 ++ two limit) ++
     block
-    (two 1 ++ (2 ∷ 11 ∷ []) ++ record4 2 1 none none ++ record4 3 0 0 0 ++ record4 3 0 0 1 ++ record4 2 0 none none ++ record4 3 0 3 0 ++ record4 2 1 none none ++ record4 3 0 5 1 ++ record4 4 0 none 2 ++ record4 1 0 none 0 ++ record4 1 0 none 1 ++ record4 1 0 none 2)
+    (two 1 ++ (2 ∷ 11 ∷ []) ++
+    record4 2 1 none none ++
+    record4 3 0 0 0 ++
+    record4 3 0 0 1 ++
+    record4 2 0 none none ++
+    record4 3 0 3 0 ++
+    record4 2 1 none none ++
+    record4 3 0 5 1 ++
+    record4 4 0 none 2 ++
+    record4 1 0 none 0 ++
+    record4 1 0 none 1 ++
+    record4 1 0 none 2)
 
 -- the numbers below n that pass, in order
 members : ℕ → (ℕ → Bool) → List ℕ
@@ -50,10 +66,12 @@ members (suc n) f = members n f ++ cond (f n) (n ∷ []) []
 boardE : Board
 boardE = boardOf (fileE 2)
 
+abbrev switched : ℕ → ℕ → Cell
+switched control net = ThreeState (record { 0 = control }) (record { 0 = net })
+
 -- a net of degree 2, switched by control cells 0 and 2, and one of degree 1, switched by control cell 4
 lopsided : List Cell
-lopsided =
-    Control true ∷ ThreeState (record { 0 = 0 }) (record { 0 = 0 }) ∷ Control true ∷ ThreeState (record { 0 = 2 }) (record { 0 = 0 }) ∷ Control true ∷ ThreeState (record { 0 = 4 }) (record { 0 = 1 }) ∷ []
+lopsided = Control true ∷ switched 0 0 ∷ Control true ∷ switched 2 0 ∷ Control true ∷ switched 4 1 ∷ []
 
 boardL : Board
 boardL = record { size = 6; nets = 2; limit = 2; cell = λ p. getD lopsided p Internal }
@@ -128,5 +146,19 @@ right [] = true
 right (f ∷ fs) = same (f .said) (f .computed) && right fs
 
 claim : right figures ≡ true
-unfolding right same listing lopsided boardL figures figure capture digits verdictOn zeroSums members boardE fileE block record4 two any all count largest seek least table has ceil bit word rowBytes rowByte rowOf byteAt numberAt added sumsFrom sumsOf blocksIn blockAt sumsRight zeros headRight headerRight cellsOf netsOf limitOf recordsIn cellBlockRight recordAt kindAt onAt controlAt netAt ofKind2 tableOf recordOf brokenAt kindOf onValueOf controlOf netOf boardOf driverIn driverAt isDriver controlIn controlled controlFor isControl alwaysOn isInput onNet outputOf driverOf drives drivers controls degree meets inside crosses groupsOf marked turn pass firstPass secondPass selected earlier group onIn codeWidth codeBit widthOf patternOf basesOf differs changes insertedAfter between weave stepsOf among vectorOf planOf totalOf vectorAt cellBit vectorRow readAt rowBit ownAt differsAt inputOf unseen failed readTwice rowsOf firstGiven markOf byteOf marksOf judge numberOf placeOf wrongLength within outside blocksFor blockWrong undriven clash clashing crowded crossed unequal shapeChecks fileChecks netChecks controlChecks earlyChecks boardChecks xor
+unfolding
+    right same listing lopsided boardL figures figure capture digits verdictOn zeroSums members boardE fileE block record4 two
+    any all largest seek least count among table has ceil bit word weave xor
+    byteAt numberAt added sumsFrom sumsOf blocksIn blockAt sumsRight zeros headRight headerRight
+    cellsOf netsOf limitOf recordsIn cellBlockRight recordAt kindAt onAt controlAt netAt
+    ofKind2 tableOf recordOf brokenAt kindOf onValueOf controlOf netOf boardOf
+    driverIn driverAt isDriver controlIn controlled controlFor isControl alwaysOn isInput
+    onNet outputOf driverOf drives drivers controls degree meets inside crosses groupsOf
+    marked turn pass firstPass secondPass selected earlier group onIn
+    codeWidth codeBit widthOf patternOf basesOf differs changes insertedAfter between stepsOf vectorOf
+    planOf totalOf vectorAt cellBit vectorRow rowBytes rowByte rowOf rowBit
+    readAt ownAt differsAt inputOf unseen failed readTwice rowsOf firstGiven markOf byteOf marksOf
+    judge numberOf placeOf wrongLength within outside blocksFor blockWrong
+    undriven clash clashing crowded crossed unequal
+    shapeChecks fileChecks netChecks controlChecks earlyChecks boardChecks
 claim = refl

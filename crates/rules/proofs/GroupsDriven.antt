@@ -2,7 +2,7 @@
 -- exactly one of the first d groups, d the number of controlled drivers at its nets; one that switches nothing is never on.
 use Prim.Native.Nat.{ℕ, zero, suc, _+_, _<_, _≤_}
 use mathlib.Core.Path.{_≡_, sym, _∙_, ap}
-use mathlib.Core.Logic.{_⊎_, inl, inr, ⊎-elim}
+use mathlib.Core.Logic.{⊎-elim}
 use mathlib.Core.Bool.{Bool, true, false, _&&_, _||_, false≢true}
 use mathlib.Core.List.{List}
 use native.Mathlib.Nat.{le-max-right}
@@ -23,6 +23,7 @@ use Rattle.rules.specs.declared.Verdict.the-variants.{Accepted}
 use Rattle.rules.proofs.NetSetLaws.{Affects, meets-at, driver-output, drives-driver, driver-drives, always-alone, driver-alone}
 use Rattle.rules.proofs.Requirement.{ControlCell}
 use Rattle.rules.proofs.Degree.{degree-drivers}
+use Rattle.rules.proofs.Cover.{Covered}
 use Rattle.rules.proofs.Selection.{Sound, sound, selected-cell, selected-apart, unused, used, uses, covered}
 
 -- an output of net n is on: always, or because its control cell is
@@ -57,20 +58,34 @@ module _ (b : Board) (s : Sound b) where
       let on-net = left (onNet b n (c .0)) _ (c .2) in
       ⊎-elim
       (λ (k : controlled b (c .0) ≡ true). by-control (covered b s j n l (has-degree n (c .0) (c .1) (both on-net k))))
-      (λ (a : alwaysOn b (c .0) ≡ true). count-one _ _ (c .1) (both (c .2) (or-left _ a)) (λ d m h. sym (always-alone b (s .checked) n (c .0) d l (c .1) m (c .2) (left (outputOf b n d) _ h) a)))
+      (λ (a : alwaysOn b (c .0) ≡ true).
+      count-one _ _ (c .1) (both (c .2) (or-left _ a))
+      (λ d m h. sym (always-alone b (s .checked) n (c .0) d l (c .1) m (c .2) (left (outputOf b n d) _ h) a)))
       (or-cases (controlled b (c .0)) (right (onNet b n (c .0)) (c .2)))
     where
-      by-control : ((T : ℕ) × (has T (group b (suc j)) ≡ true) × Affects b T n) → count (b .size) (live b (onIn b (suc j)) n) ≡ 1
+      by-control : Covered b (group b (suc j)) n → count (b .size) (live b (onIn b (suc j)) n) ≡ 1
       by-control T =
           let d = drives-driver b (T .0) n (T .2) in
-          count-one _ _ (d .1) (both (driver-output b n (d .0) (d .2)) (or-right (alwaysOn b (d .0)) (rw (d .3) (T .1)))) (λ c m h. only (d .0) (d .1) (d .2) (d .3) c m (left (outputOf b n c) _ h) (or-cases (alwaysOn b c) (right (outputOf b n c) h)) (or-cases (controlled b c) (right (onNet b n c) (left (outputOf b n c) _ h))))
+          let on : onIn b (suc j) (controlFor b (d .0)) ≡ true = rw (d .3) (T .1) in
+          let is-live = both (driver-output b n (d .0) (d .2)) (or-right (alwaysOn b (d .0)) on) in
+          count-one _ _ (d .1) is-live (only (d .0) (d .1) (d .2) (d .3))
         where
-          only : (d : ℕ) → d < b .size → driverOf b n d ≡ true → controlFor b d ≡ T .0 → (c : ℕ) → c < b .size → outputOf b n c ≡ true → (alwaysOn b c ≡ true) ⊎ (onIn b (suc j) (controlFor b c) ≡ true) → (controlled b c ≡ true) ⊎ (alwaysOn b c ≡ true) → c ≡ d
-          only d v x e c m o (inl a) k = always-alone b (s .checked) n c d l m v o (driver-output b n d x) a
-          only d v x e c m o (inr h) (inr a) = always-alone b (s .checked) n c d l m v o (driver-output b n d x) a
-          only d v x e c m o (inr h) (inl k) =
-              let y = both (left (onNet b n c) _ o) k in
-              driver-alone b (s .checked) n c d l m v y x (on-apart (suc j) (controlFor b c) (T .0) h (T .1) (meets-at b (controlFor b c) (T .0) n l (driver-drives b n c m y) (T .2)) ∙ sym e)
+          -- an output that is on is the one that T switches
+          only :
+              (d : ℕ) → d < b .size → driverOf b n d ≡ true → controlFor b d ≡ T .0 →
+              (c : ℕ) → c < b .size → live b (onIn b (suc j)) n c ≡ true → c ≡ d
+          only d v x e c m h =
+              let o = left (outputOf b n c) _ h in
+              let always : alwaysOn b c ≡ true → c ≡ d = always-alone b (s .checked) n c d l m v o (driver-output b n d x) in
+              ⊎-elim
+              always
+              (λ on. ⊎-elim (λ k. switched on (both (left (onNet b n c) _ o) k)) always (or-cases (controlled b c) (right (onNet b n c) o)))
+              (or-cases (alwaysOn b c) (right (outputOf b n c) h))
+            where
+              switched : onIn b (suc j) (controlFor b c) ≡ true → driverOf b n c ≡ true → c ≡ d
+              switched on y =
+                  let meet = meets-at b (controlFor b c) (T .0) n l (driver-drives b n c m y) (T .2) in
+                  driver-alone b (s .checked) n c d l m v y x (on-apart (suc j) (controlFor b c) (T .0) on (T .1) meet ∙ sym e)
 
   -- what was on earlier was on in a group
   earlier-group : (j k : ℕ) → has k (earlier b j) ≡ true → (i : ℕ) × (i < j) × (onIn b (suc i) k ≡ true)
@@ -96,10 +111,19 @@ module _ (b : Board) (s : Sound b) where
   pub one-turn : (k n : ℕ) → ControlCell b k → n < b .nets → Affects b k n → count (degree b n) (λ i. onIn b (suc i) k) ≡ 1
   unfolding onIn group degree controls
   one-turn k n x l a =
-      let spent = passes-if (has k (earlier b (degree b n))) (λ z. let u = uses b s (degree b n) n l (omega arith) in let c = count-strictly (b .size) (used b n (degree b n)) (controls b n) (λ i m h. left (controls b n i) _ h) (x .on-board) (fails-if _ (λ h. clashes (right (controls b n k) h) z)) (both (x .is-control) a) in omega arith) in
-      let first = earlier-group (degree b n) k spent in
+      let first = earlier-group (degree b n) k (passes-if _ unspent) in
       count-one _ _ (first .1) (first .2) (λ i m h. only (first .0) (first .1) (first .2) i m h)
     where
+      -- had k had no turn, n would have used fewer than it has
+      unspent : has k (earlier b (degree b n)) ≡ false → ⊥
+      unspent z =
+          let all-used = uses b s (degree b n) n l (omega arith) in
+          let not-k = fails-if _ (λ h. clashes (right (controls b n k) h) z) in
+          let fewer =
+          count-strictly (b .size) (used b n (degree b n)) (controls b n)
+          (λ i m h. left (controls b n i) _ h) (x .on-board) not-k (both (x .is-control) a) in
+          omega arith
+
       after : (i g : ℕ) → i < g → g < degree b n → onIn b (suc i) k ≡ true → onIn b (suc g) k ≡ true → ⊥
       after i g u v p q = clashes (group-earlier g i k u p) (unused b s (suc g) (earlier b g) k n l v q a)
 
@@ -125,7 +149,9 @@ module _ (file : List ℕ) (ok : judge (boardChecks file) ≡ Accepted) where
   group-drives-once (suc j) p n l = once-driven (boardOf file) (sound file ok) j n l
 
   -- a control cell whose nets have d controlled drivers is on in exactly one of groups 1 to d, and d is at most G
-  pub turn-in-time : (k n : ℕ) → ControlCell (boardOf file) k → n < boardOf file .nets → Affects (boardOf file) k n → (count (drivers (boardOf file) n) (λ i. onIn (boardOf file) (i + 1) k) ≡ 1) × (drivers (boardOf file) n ≤ groupsOf (boardOf file))
+  pub turn-in-time :
+      (k n : ℕ) → ControlCell (boardOf file) k → n < boardOf file .nets → Affects (boardOf file) k n →
+      (count (drivers (boardOf file) n) (λ i. onIn (boardOf file) (i + 1) k) ≡ 1) × (drivers (boardOf file) n ≤ groupsOf (boardOf file))
   turn-in-time k n x l a =
       let b = boardOf file in
       let s = sound file ok in

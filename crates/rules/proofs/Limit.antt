@@ -1,5 +1,8 @@
 -- Two neighbouring vectors of a plan differ in at most SSOL nets.
--- The idea: between base vector i and the next the values go by stages. Stage j has the new value at the j × SSOL lowest differing nets and the old elsewhere: stage 0 is base i, stage t the t-th inserted vector, and the stage after the last inserted one is base i + 1, for by then no differing net is left. From one stage to the next only nets change that are among the lowest (j + 1) × SSOL and not among the lowest j × SSOL, and of those there are at most SSOL.
+-- The idea: between base vector i and the next the values go by stages. Stage j has the new value at the j × SSOL lowest differing nets and
+-- the old elsewhere: stage 0 is base i, stage t the t-th inserted vector, and the stage after the last inserted one is base i + 1, for by
+-- then no differing net is left. From one stage to the next only nets change that are among the lowest (j + 1) × SSOL and not among the
+-- lowest j × SSOL, and of those there are at most SSOL.
 use Prim.Native.Nat.{ℕ, zero, suc, _+_, _*_, _-_, _≤_, _<_}
 use mathlib.Core.Path.{_≡_, refl, _∙_, ap, fun-ext}
 use mathlib.Core.Bool.{Bool, true, false, cond, xor, false≢true}
@@ -45,7 +48,9 @@ stages-within s i j =
     let d = differs s i in
     let low = j * s .limit in
     let high = suc j * s .limit in
-    let h = count-apart (s .nets) (λ m. xor (stageValue s i j m) (stageValue s i (suc j) m)) (among low d) (among high d) (λ m l. switch (among low d m) (among high d m) _ _ (among-more d (omega (arith, suc-mul j (s .limit))) m)) in
+    let h =
+    count-apart (s .nets) (λ m. xor (stageValue s i j m) (stageValue s i (suc j) m)) (among low d) (among high d)
+    (λ m l. switch (among low d m) (among high d m) _ _ (among-more d (omega (arith, suc-mul j (s .limit))) m)) in
     omega (arith, count-among (s .nets) low d, count-among (s .nets) high d, suc-mul j (s .limit))
 
 -- each vector from base i up to the next is a stage
@@ -78,12 +83,16 @@ stage-last s i p h m l =
     rw (among-all (s .nets) (suc (length (between s i)) * s .limit) (differs s i) (stages-enough s i p h) l) (take-new (s .value i m) (s .value (i + 1) m))
 
 -- two neighbouring vectors of a plan differ in at most SSOL nets
-pub neighbours-within : (s : Bases) → 0 < s .limit → (t : ℕ) → t + 1 < length (stepsOf s) → count (s .nets) (λ m. xor (vectorOf s (getD (stepsOf s) t (Base 0)) .value m) (vectorOf s (getD (stepsOf s) (t + 1) (Base 0)) .value m)) ≤ s .limit
+pub neighbours-within :
+    (s : Bases) → 0 < s .limit → (t : ℕ) → t + 1 < length (stepsOf s) →
+    count (s .nets) (λ m. xor (vectorOf s (getD (stepsOf s) t (Base 0)) .value m) (vectorOf s (getD (stepsOf s) (t + 1) (Base 0)) .value m)) ≤ s .limit
 unfolding stepsOf
 neighbours-within s p =
     weave-neighbours Base (between s) (s .size) (Base 0) (λ a c. count (s .nets) (λ m. xor (vectorOf s a .value m) (vectorOf s c .value m)) ≤ s .limit)
     (λ i l k h. rw (stage-at s i (Base 0) k (omega arith), stage-at s i (Base 0) (suc k) h) (stages-within s i k))
-    (λ i l. let k = length (between s i) in rw (stage-at s i (Base 0) k (omega arith), count-same (s .nets) _ _ (λ m q. ap (xor (stageValue s i k m)) (stage-last s i p l m q))) (stages-within s i k))
+    (λ i l. let k = length (between s i) in
+    let last = count-same (s .nets) _ _ (λ m q. ap (xor (stageValue s i k m)) (stage-last s i p l m q)) in
+    rw (stage-at s i (Base 0) k (omega arith), last) (stages-within s i k))
 
 -- and so on any board
 pub limit-kept : (b : Board) → 0 < b .limit → (t : ℕ) → t + 1 < totalOf b → count (b .nets) (λ m. xor (vectorAt b t .value m) (vectorAt b (t + 1) .value m)) ≤ b .limit

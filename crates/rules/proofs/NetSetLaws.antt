@@ -1,8 +1,8 @@
 -- Laws of drivers and net sets: a control cell's nets and its drivers there, how two net sets lie, and what a net without clashes has.
 use Prim.Native.Nat.{ℕ, _<_}
 use mathlib.Core.Path.{_≡_, refl}
-use mathlib.Core.Logic.{_⊎_, ⊎-elim}
-use mathlib.Core.Bool.{true, false, not}
+use mathlib.Core.Logic.{⊎-elim}
+use mathlib.Core.Bool.{true, false, not, _&&_, _||_}
 use borrow.Author.Tests.{eqb-true, eq-eqb}
 use lib.Dec.{eqb}
 use Rattle.base.proofs.BoolLaws.{left, right, or-left, or-right, or-cases, or-neither, not-fails, fails-not, passes-not, clashes, both, passes-if, same-test}
@@ -76,17 +76,22 @@ pub driver-own : (b : Board) (c : ℕ) → c < b .size → controlled b c ≡ tr
 unfolding driverOf onNet
 driver-own b c l x = driver-drives b (netOf (b .cell c)) c l (both (eq-eqb (netOf (b .cell c)) (netOf (b .cell c)) refl) x)
 
--- two outputs of a net clash where one is always on
-pub always-alone : (b : Board) → Early b → (n c d : ℕ) → n < b .nets → c < b .size → d < b .size → outputOf b n c ≡ true → outputOf b n d ≡ true → alwaysOn b c ≡ true → c ≡ d
-unfolding clash
-always-alone b early n c d l m k x y a =
-    eqb-true c d (passes-if (eqb c d) (λ q. clashes (both (both (both (not-fails q) x) y) (or-left _ a)) (early .no-clash n c d l m k)))
+-- two outputs of a net that clash unless they are one
+module _ (b : Board) (early : Early b) (n c d : ℕ) (l : n < b .nets) (m : c < b .size) (k : d < b .size) where
+  alone : outputOf b n c ≡ true → outputOf b n d ≡ true → (alwaysOn b c || (controlled b c && controlled b d && eqb (controlFor b c) (controlFor b d))) ≡ true → c ≡ d
+  unfolding clash
+  alone x y z = eqb-true c d (passes-if (eqb c d) (λ q. clashes (both (both (both (not-fails q) x) y) z) (early .no-clash n c d l m k)))
 
--- and where both are of one control cell
-pub driver-alone : (b : Board) → Early b → (n c d : ℕ) → n < b .nets → c < b .size → d < b .size → driverOf b n c ≡ true → driverOf b n d ≡ true → controlFor b c ≡ controlFor b d → c ≡ d
-unfolding clash driverOf
-driver-alone b early n c d l m k x y a =
-    eqb-true c d (passes-if (eqb c d) (λ q. clashes (both (both (both (not-fails q) (driver-output b n c x)) (driver-output b n d y)) (or-right (alwaysOn b c) (both (both (right (onNet b n c) x) (right (onNet b n d) y)) (eq-eqb _ _ a)))) (early .no-clash n c d l m k)))
+  -- one is always on
+  pub always-alone : outputOf b n c ≡ true → outputOf b n d ≡ true → alwaysOn b c ≡ true → c ≡ d
+  always-alone x y a = alone x y (or-left _ a)
+
+  -- or both are of one control cell
+  pub driver-alone : driverOf b n c ≡ true → driverOf b n d ≡ true → controlFor b c ≡ controlFor b d → c ≡ d
+  unfolding driverOf
+  driver-alone x y a =
+      let controlled-both = both (right (onNet b n c) x) (right (onNet b n d) y) in
+      alone (driver-output b n c x) (driver-output b n d y) (or-right (alwaysOn b c) (both controlled-both (eq-eqb _ _ a)))
 
 -- a net that a control cell affects has controlled drivers alone, so source 000's degree is document 01's number of controlled drivers
 pub outputs-drivers : (b : Board) → Early b → (k n : ℕ) → n < b .nets → Affects b k n → outputs b n ≡ drivers b n

@@ -13,21 +13,25 @@ pub record Meets (said did : Outcome) : Type 0 where
   pub bits-are : did .bits ≡ said .bits
   pub buffer-is : did .buffer ≡ said .buffer
 
-same : (said did did′ : Outcome) → Meets said did → Meets said did′ → did ≡ did′
-same said did did′ m m′ =
+-- one outcome: any two that meet what is said are equal
+abbrev pub Once : Outcome → Type 0
+Once said = (did did′ : Outcome) → Meets said did → Meets said did′ → did ≡ did′
+
+once : (said : Outcome) → Once said
+once said did did′ m m′ =
     λ i. record { bits = (m .bits-are ∙ sym (m′ .bits-are)) i; buffer = (m .buffer-is ∙ sym (m′ .buffer-is)) i }
 
-pub groups-once : (file buffer : List ℕ) (did did′ : Outcome) → Meets (groupsOutcome (groupsAnswer file buffer)) did → Meets (groupsOutcome (groupsAnswer file buffer)) did′ → did ≡ did′
-groups-once file buffer = same (groupsOutcome (groupsAnswer file buffer))
+pub groups-once : (file buffer : List ℕ) → Once (groupsOutcome (groupsAnswer file buffer))
+groups-once file buffer = once _
 
-pub count-once : (file : List ℕ) (did did′ : Outcome) → Meets (countOutcome (countAnswer file)) did → Meets (countOutcome (countAnswer file)) did′ → did ≡ did′
-count-once file = same (countOutcome (countAnswer file))
+pub count-once : (file : List ℕ) → Once (countOutcome (countAnswer file))
+count-once file = once _
 
-pub vector-once : (file : List ℕ) (number : ℕ) (buffer : List ℕ) (did did′ : Outcome) → Meets (vectorOutcome (vectorAnswer file number buffer)) did → Meets (vectorOutcome (vectorAnswer file number buffer)) did′ → did ≡ did′
-vector-once file number buffer = same (vectorOutcome (vectorAnswer file number buffer))
+pub vector-once : (file : List ℕ) (number : ℕ) (buffer : List ℕ) → Once (vectorOutcome (vectorAnswer file number buffer))
+vector-once file number buffer = once _
 
-pub marks-once : (file capture buffer : List ℕ) (did did′ : Outcome) → Meets (marksOutcome (marksAnswer file capture buffer)) did → Meets (marksOutcome (marksAnswer file capture buffer)) did′ → did ≡ did′
-marks-once file capture buffer = same (marksOutcome (marksAnswer file capture buffer))
+pub marks-once : (file capture buffer : List ℕ) → Once (marksOutcome (marksAnswer file capture buffer))
+marks-once file capture buffer = once _
 
 -- a field that fits its width is read off again, and so is what stands above it
 pub pack-first : (f : Field) (fs : List Field) → f .value < 2 ^ f .width → pack (f ∷ fs) % 2 ^ f .width ≡ f .value

@@ -10,7 +10,7 @@ use native.Mathlib.Nat.{eq-or-lt-of-le}
 use native.Mathlib.Omega.{arith}
 use borrow.Author.Tests.{eqb-true, eq-eqb, lt-ltb}
 use lib.Dec.{eqb, ltb}
-use Rattle.base.proofs.BoolLaws.{decided, order, left, right, both, not-fails, fails-not, clashes, fails-if, passes-if}
+use Rattle.base.proofs.BoolLaws.{Decided, decided, order, left, right, both, not-fails, fails-not, clashes, fails-if, passes-if}
 use Rattle.base.proofs.TestLaws.{any-member, any-none, none-any}
 use Rattle.rules.specs.File.{Board, boardOf}
 use Rattle.rules.specs.Drivers.{isControl, drives, drivers, outputs, meets, inside, crosses}
@@ -33,12 +33,16 @@ pub record Requirement (b : Board) : Type 0 where
   pub nested : (i j : ℕ) → ControlCell b i → ControlCell b j → Disjoint b i j ⊎ (Included b i j ⊎ Included b j i)
   pub equal : (k n m : ℕ) → ControlCell b k → n < b .nets → m < b .nets → Affects b k n → Affects b k m → outputs b n ≡ outputs b m
 
--- two control cells that do not cross lie as the source asks
-apart-or-nested : (b : Board) (i j : ℕ) → ControlCell b i → ControlCell b j → crosses b i j ≡ false → Disjoint b i j ⊎ (Included b i j ⊎ Included b j i)
+-- two control cells lie as the source asks
+abbrev ApartOrNested : Board → ℕ → ℕ → Type 0
+ApartOrNested b i j = Disjoint b i j ⊎ (Included b i j ⊎ Included b j i)
+
+-- so do two that do not cross
+apart-or-nested : (b : Board) (i j : ℕ) → ControlCell b i → ControlCell b j → crosses b i j ≡ false → ApartOrNested b i j
 unfolding crosses
 apart-or-nested b i j x y h = go (decided (meets b i j)) (decided (inside b i j)) (decided (inside b j i))
   where
-    go : (meets b i j ≡ true) ⊎ (meets b i j ≡ false) → (inside b i j ≡ true) ⊎ (inside b i j ≡ false) → (inside b j i ≡ true) ⊎ (inside b j i ≡ false) → Disjoint b i j ⊎ (Included b i j ⊎ Included b j i)
+    go : Decided (meets b i j) → Decided (inside b i j) → Decided (inside b j i) → ApartOrNested b i j
     go (inr m) p q = inl (apart b i j m)
     go (inl m) (inl p) q = inr (inl (included b i j p))
     go (inl m) (inr p) (inl q) = inr (inr (included b j i q))
@@ -53,14 +57,18 @@ holds b e h = record { nested = nested; equal = equal }
     below : (i j : ℕ) → i < j → i < b .size → j < b .size → crosses b i j ≡ false
     below i j l x y = fails-if _ (λ t. clashes (both (lt-ltb i j l) t) (any-none _ _ (h .0 i x) y))
 
-    nested : (i j : ℕ) → ControlCell b i → ControlCell b j → Disjoint b i j ⊎ (Included b i j ⊎ Included b j i)
+    nested : (i j : ℕ) → ControlCell b i → ControlCell b j → ApartOrNested b i j
     nested i j x y =
         ⊎-elim
         (λ (l : i < j). apart-or-nested b i j x y (below i j l (x .on-board) (y .on-board)))
-        (λ (l : j ≤ i). ⊎-elim (λ (q : j ≡ i). inr (inl (λ n m a. rw q a))) (λ (q : j < i). turned (apart-or-nested b j i y x (below j i q (y .on-board) (x .on-board)))) (eq-or-lt-of-le l))
+        (λ (l : j ≤ i).
+        ⊎-elim
+        (λ (q : j ≡ i). inr (inl (λ n m a. rw q a)))
+        (λ (q : j < i). turned (apart-or-nested b j i y x (below j i q (y .on-board) (x .on-board))))
+        (eq-or-lt-of-le l))
         (order i j)
       where
-        turned : Disjoint b j i ⊎ (Included b j i ⊎ Included b i j) → Disjoint b i j ⊎ (Included b i j ⊎ Included b j i)
+        turned : ApartOrNested b j i → ApartOrNested b i j
         turned (inl d) = inl (λ n m p q. d n m q p)
         turned (inr (inl p)) = inr (inr p)
         turned (inr (inr p)) = inr (inl p)
@@ -114,11 +122,16 @@ accepted-exactly file e =
     (λ a. holds (boardOf file) (early file e) (all-pass _ (sym (rest file e) ∙ a)), λ r. rest file e ∙ accepted _ (passes (boardOf file) (early file e) r))
 
 -- .. and refused, by 10 or 11 and by no other number, exactly where it breaks it
-pub refused-exactly : (file : List ℕ) → judge (earlyChecks file) ≡ Accepted → ((numberOf (judge (boardChecks file)) ≡ 10) ⊎ (numberOf (judge (boardChecks file)) ≡ 11)) ↔ (Requirement (boardOf file) → ⊥)
+pub refused-exactly :
+    (file : List ℕ) → judge (earlyChecks file) ≡ Accepted →
+    ((numberOf (judge (boardChecks file)) ≡ 10) ⊎ (numberOf (judge (boardChecks file)) ≡ 11)) ↔ (Requirement (boardOf file) → ⊥)
 unfolding numberOf controlChecks
-refused-exactly file e =
-    (λ h r. let a = ap numberOf (accepted-exactly file e .1 r) in ⊎-elim (λ (t : numberOf (judge (boardChecks file)) ≡ 10). omega arith) (λ (t : numberOf (judge (boardChecks file)) ≡ 11). omega arith) h, λ broken. go broken (judge (boardChecks file)) refl)
+refused-exactly file e = (kept, λ broken. go broken (judge (boardChecks file)) refl)
   where
+    kept : (numberOf (judge (boardChecks file)) ≡ 10) ⊎ (numberOf (judge (boardChecks file)) ≡ 11) → Requirement (boardOf file) → ⊥
+    kept (inl t) r = omega (arith, ap numberOf (accepted-exactly file e .1 r))
+    kept (inr t) r = omega (arith, ap numberOf (accepted-exactly file e .1 r))
+
     which : (r : Refusal) → First r (controlChecks (boardOf file)) → (r .number ≡ 10) ⊎ (r .number ≡ 11)
     which r (here place a x) = inl (ap (λ (s : Refusal). s .number) (sym x))
     which r (later p (here place a x)) = inr (ap (λ (s : Refusal). s .number) (sym x))

@@ -12,12 +12,12 @@ use lib.Dec.{leb, ltb}
 use Rattle.base.specs.Counting.{count}
 use Rattle.base.specs.Lists.{has}
 use Rattle.base.proofs.BoolLaws.{order, left, right, both, or-left, or-right, or-cases, not-fails, fails-not, clashes, same-test}
-use Rattle.base.proofs.CountingLaws.{count-same, count-none, count-member, count-split}
+use Rattle.base.proofs.CountingLaws.{count-same, count-none, count-split}
 use Rattle.base.proofs.OneToOne.{without, count-without}
 use Rattle.base.proofs.ListLaws.{has-append}
 use Rattle.rules.specs.File.{Board, boardOf, netOf}
-use Rattle.rules.specs.Drivers.{controlled, controlFor, isControl, onNet, driverOf, drives, controls, degree}
-use Rattle.rules.specs.Groups.{marked, firstPass, secondPass, selected, earlier, group}
+use Rattle.rules.specs.Drivers.{controlled, controlFor, isControl, onNet, driverOf, controls, degree}
+use Rattle.rules.specs.Groups.{firstPass, secondPass, selected, earlier, group}
 use Rattle.rules.specs.Refusals.{judge, earlyChecks, controlChecks, boardChecks}
 use Rattle.rules.specs.declared.Verdict.the-variants.{Accepted}
 use Rattle.rules.proofs.Verdicts.{all-pass, append-pass, accepted}
@@ -26,7 +26,7 @@ use Rattle.rules.proofs.NetSetLaws.{Affects, meets-at, drives-driver, d
 use Rattle.rules.proofs.Requirement.{ControlCell, Requirement, accepted-exactly}
 use Rattle.rules.proofs.Degree.{degree-drivers}
 use Rattle.rules.proofs.PassLaws.{Apart, open-at, pass-keeps, pass-members, pass-apart, pass-marks}
-use Rattle.rules.proofs.Cover.{available, covers}
+use Rattle.rules.proofs.Cover.{available, available-cell, Passed, Covered, covered-by}
 
 -- a sound board: one that checks 1 to 9 leave and that meets the requirement
 pub record Sound (b : Board) : Type 0 where
@@ -80,8 +80,15 @@ module _ (b : Board) (s : Sound b) where
       let cw = left (controlled b c && wanted net) _ o in
       let is = left (controlled b c) _ cw in
       let own = s .checked .own-control c l is in
-      rw (← e)
-      (record { cell = record { on-board = own .0; is-control = own .1 }; net = net; below = s .checked .own-net c l (or-left _ is); affects = driver-own b c l is; is-wanted = right (controlled b c) cw }, right (controlled b c && wanted net) o)
+      let opens : Opened wanted (controlFor b c) =
+      record {
+        cell = record { on-board = own .0; is-control = own .1 };
+        net = net;
+        below = s .checked .own-net c l (or-left _ is);
+        affects = driver-own b c l is;
+        is-wanted = right (controlled b c) cw;
+      } in
+      rw (← e) (opens, right (controlled b c && wanted net) o)
 
   -- and where a wanted net has an allowed control cell, a pass may turn that on
   may-open : (wanted allowed : ℕ → Bool) (k n : ℕ) → Affects b k n → wanted n ≡ true → allowed k ≡ true → (c : ℕ) × (c < b .size) × (open-at b wanted allowed c ≡ true) × (controlFor b c ≡ k)
@@ -125,49 +132,54 @@ module _ (b : Board) (s : Sound b) where
     unused k n l d h a =
         ⊎-elim
         (λ e. fails-not _ (first-members k e .1))
-        (λ o. let same = degrees-equal k n (o .net) (o .cell) l (o .below) a (o .affects) in let low = ltb-true (degree b (o .net)) g (o .is-wanted) in absurd (omega arith))
+        (λ o. let same = degrees-equal k n (o .net) (o .cell) l (o .below) a (o .affects) in
+        let low = ltb-true (degree b (o .net)) g (o .is-wanted) in
+        absurd (omega arith))
         (second-members k h)
 
     -- a net of degree g or more is covered where every such net has as many unused control cells as its degree says
-    covered-first : (j : ℕ) → ((m : ℕ) → m < b .nets → g ≤ degree b m → count (b .size) (available b (fresh before) m) + j ≡ degree b m) → j < g → (n : ℕ) → n < b .nets → g ≤ degree b n → (T : ℕ) × (has T (selected b g before) ≡ true) × Affects b T n
+    covered-first :
+        (j : ℕ) → ((m : ℕ) → m < b .nets → g ≤ degree b m → count (b .size) (available b (fresh before) m) + j ≡ degree b m) → j < g →
+        (n : ℕ) → n < b .nets → g ≤ degree b n → Covered b (selected b g before) n
     unfolding firstPass selected secondPass controls
     covered-first j left-over j<g n l d =
-        let some = count-member (b .size) (available b (fresh before) n) (let f = left-over n l d in omega arith) in
-        let t = covers b (s .require) (fresh before) (firstPass b g before) (λ k h. let o = first-members k h in (o .0 .cell, o .1)) n l hits even (suc (count (b .nets) (drives b (some .0)))) (some .0) (omega arith) (some .1) (some .2) in
+        let at-n = left-over n l d in
+        let t = covered-by b (s .require) (fresh before) (firstPass b g before) n l passed (omega arith) in
         (t .0, pass-keeps b _ _ (b .size) _ (t .0) (t .1), t .2)
       where
-        hits : (k : ℕ) → k < b .size → available b (fresh before) n k ≡ true → marked b (firstPass b g before) k ≡ true
-        hits k m a =
-            let c = may-open (reaches b g) (fresh before) k n (right (isControl b k) (left (controls b n k) _ a)) (le-leb _ _ d) (right (controls b n k) a) in
-            rw (← c .3) (pass-marks b _ _ (b .size) [] (c .0) (c .1) (c .2))
-
-        even : (k m : ℕ) → k < b .size → available b (fresh before) n k ≡ true → m < b .nets → Affects b k m → count (b .size) (available b (fresh before) m) ≡ count (b .size) (available b (fresh before) n)
-        even k m u a v p =
-            let cn = left (controls b n k) _ a in
-            let same = degrees-equal k n m (record { on-board = u; is-control = left (isControl b k) _ cn }) l v (right (isControl b k) cn) p in
-            let x = left-over n l d in
-            let y = left-over m v (omega arith) in
-            omega arith
+        passed : Passed b (fresh before) (firstPass b g before) n
+        passed =
+            record {
+              members = λ k h. let o = first-members k h in (o .0 .cell, o .1);
+              all-marked = λ k m a. let x = available-cell b (fresh before) n k m a in
+                  let c = may-open (reaches b g) (fresh before) k n (x .1) (le-leb _ _ d) (right (controls b n k) a) in
+                  rw (← c .3) (pass-marks b _ _ (b .size) [] (c .0) (c .1) (c .2));
+              even = λ k m u a v p. let x = available-cell b (fresh before) n k u a in
+                  let same = degrees-equal k n m (x .0) l v (x .1) p in
+                  let at-n = left-over n l d in
+                  let at-m = left-over m v (omega arith) in
+                  omega arith;
+            }
 
     -- and a net of lower degree is covered by the second pass
-    covered-second : (n : ℕ) → n < b .nets → degree b n < g → 0 < degree b n → (T : ℕ) × (has T (selected b g before) ≡ true) × Affects b T n
-    unfolding selected secondPass controls degree
+    covered-second : (n : ℕ) → n < b .nets → degree b n < g → 0 < degree b n → Covered b (selected b g before) n
+    unfolding selected secondPass degree
     covered-second n l d p =
-        let some = count-member (b .size) (controls b n) p in
-        covers b (s .require) anyone (selected b g before) (λ k h. (selected-cell k h .3, refl)) n l hits even (suc (count (b .nets) (drives b (some .0)))) (some .0) (omega arith) (some .1) (both (some .2) refl)
+        covered-by b (s .require) anyone (selected b g before) n l passed (rw (all-of n) p)
       where
-        hits : (k : ℕ) → k < b .size → available b anyone n k ≡ true → marked b (selected b g before) k ≡ true
-        hits k m a =
-            let c = may-open (falls-short b g) anyone k n (right (isControl b k) (left (controls b n k) _ a)) (lt-ltb _ _ d) refl in
-            rw (← c .3) (pass-marks b _ _ (b .size) _ (c .0) (c .1) (c .2))
-
         all-of : (m : ℕ) → count (b .size) (available b anyone m) ≡ degree b m
         all-of m = count-same _ _ _ (λ k u. and-true (controls b m k))
 
-        even : (k m : ℕ) → k < b .size → available b anyone n k ≡ true → m < b .nets → Affects b k m → count (b .size) (available b anyone m) ≡ count (b .size) (available b anyone n)
-        even k m u a v q =
-            let cn = left (controls b n k) _ a in
-            all-of m ∙ sym (degrees-equal k n m (record { on-board = u; is-control = left (isControl b k) _ cn }) l v (right (isControl b k) cn) q) ∙ sym (all-of n)
+        passed : Passed b anyone (selected b g before) n
+        passed =
+            record {
+              members = λ k h. (selected-cell k h .3, refl);
+              all-marked = λ k m a. let x = available-cell b anyone n k m a in
+                  let c = may-open (falls-short b g) anyone k n (x .1) (lt-ltb _ _ d) refl in
+                  rw (← c .3) (pass-marks b _ _ (b .size) _ (c .0) (c .1) (c .2));
+              even = λ k m u a v q. let x = available-cell b anyone n k u a in
+                  all-of m ∙ sym (degrees-equal k n m (x .0) l v (x .1) q) ∙ sym (all-of n);
+            }
 
   -- before group j + 1 a net of degree at least j has used exactly j of its control cells, and all others are left
   left-over : (j n : ℕ) → count (b .size) (used b n j) ≡ j → count (b .size) (available b (fresh (earlier b j)) n) + j ≡ degree b n
@@ -175,7 +187,9 @@ module _ (b : Board) (s : Sound b) where
   left-over j n h = let c = count-split (b .size) (controls b n) (λ k. has k (earlier b j)) in omega arith
 
   -- group j + 1 covers a net of degree above j, where the counts are right so far
-  covered-next : (j : ℕ) → ((m : ℕ) → m < b .nets → j ≤ degree b m → count (b .size) (used b m j) ≡ j) → (n : ℕ) → n < b .nets → j < degree b n → (T : ℕ) × (has T (group b (suc j)) ≡ true) × Affects b T n
+  covered-next :
+      (j : ℕ) → ((m : ℕ) → m < b .nets → j ≤ degree b m → count (b .size) (used b m j) ≡ j) →
+      (n : ℕ) → n < b .nets → j < degree b n → Covered b (group b (suc j)) n
   unfolding group
   covered-next j counts n l d =
       covered-first (suc j) (earlier b j) j (λ m v e. left-over j m (counts m v (omega arith))) (omega arith) n l d
@@ -198,7 +212,9 @@ module _ (b : Board) (s : Sound b) where
           let c = left (controls b n k) _ u in
           both c
           (⊎-elim
-          (λ (e : has k new ≡ true). absurd (clashes (eq-eqb k T (selected-apart (suc j) (earlier b j) k T e h (meets-at b k T n l (right (isControl b k) c) a))) (fails-not _ (right (used b n (suc j) k) w))))
+          (λ (e : has k new ≡ true).
+          let meet = meets-at b k T n l (right (isControl b k) c) a in
+          absurd (clashes (eq-eqb k T (selected-apart (suc j) (earlier b j) k T e h meet)) (fails-not _ (right (used b n (suc j) k) w))))
           (λ (e : has k (earlier b j) ≡ true). e)
           (or-cases (has k new) (sym (has-append k new (earlier b j)) ∙ right (controls b n k) u)))
 
@@ -219,7 +235,7 @@ module _ (b : Board) (s : Sound b) where
       omega arith
 
   -- every group covers every net that has control cells
-  pub covered : (j n : ℕ) → n < b .nets → 0 < degree b n → (T : ℕ) × (has T (group b (suc j)) ≡ true) × Affects b T n
+  pub covered : (j n : ℕ) → n < b .nets → 0 < degree b n → Covered b (group b (suc j)) n
   unfolding group
   covered j n l p =
       ⊎-elim

@@ -51,7 +51,12 @@ laid file e =
     let limits = passes-not _ (h .1 .1 .1 .0 0 (omega arith)) in
     let right-blocks = eqb-true (blocksIn file) (blocksFor (cellsOf file)) (passes-not _ (h .1 .1 .1 .1 .0 0 (b .1))) in
     let sizes = left (within mostCells (cellsOf file) && within mostNets (netsOf file)) _ limits in
-    record { long = b .0 ∙ ap (λ (n : ℕ). blockSize * n) right-blocks; cells = within-limits _ _ (left (within mostCells (cellsOf file)) _ sizes); nets = within-limits _ _ (right (within mostCells (cellsOf file)) sizes); limit = within-limits _ _ (right (within mostCells (cellsOf file) && within mostNets (netsOf file)) limits) }
+    record {
+      long = b .0 ∙ ap (λ (n : ℕ). blockSize * n) right-blocks;
+      cells = within-limits _ _ (left (within mostCells (cellsOf file)) _ sizes);
+      nets = within-limits _ _ (right (within mostCells (cellsOf file)) sizes);
+      limit = within-limits _ _ (right (within mostCells (cellsOf file) && within mostNets (netsOf file)) limits);
+    }
 
 -- the header is there
 pub one-block : (file : List ℕ) → Laid file → blockSize ≤ length file

@@ -87,7 +87,8 @@ unfolding totalOf vectorAt planOf stepsOf basesOf vectorOf between
 vector-group b =
     weave-each Base (between (basesOf b)) (groupsOf b * widthOf b) (Base 0) (λ step. (0 < vectorOf (basesOf b) step .group) × (vectorOf (basesOf b) step .group ≤ groupsOf b))
     (λ i l. (omega arith, step-group b i l))
-    (λ i l k m. rw (table-at (insertedAfter (basesOf b) i) (λ t. Inserted i (t + 1)) (Base 0) {i = k} (rw (length-table (insertedAfter (basesOf b) i) (λ t. Inserted i (t + 1))) at m)) (omega arith, step-group b i l))
+    (λ i l k m. let inside = rw (length-table (insertedAfter (basesOf b) i) (λ t. Inserted i (t + 1))) at m in
+    rw (table-at (insertedAfter (basesOf b) i) (λ t. Inserted i (t + 1)) (Base 0) {i = k} inside) (omega arith, step-group b i l))
 
 -- and each of groups 1 to G has a vector
 pub group-vector : (b : Board) (j : ℕ) → j < groupsOf b → (t : ℕ) × (t < totalOf b) × (vectorAt b t .group ≡ suc j)
@@ -107,16 +108,22 @@ group-vector b j l =
 -- The theorem, from acceptance alone
 module _ (file : List ℕ) (ok : judge (boardChecks file) ≡ Accepted) where
   -- in each vector, inserted ones included, exactly one output is on at every net, read off the row's bits
-  pub vector-drives-once : (t n : ℕ) → t < totalOf (boardOf file) → n < boardOf file .nets → count (boardOf file .size) (live (boardOf file) (rowOn (boardOf file) (vectorRow (boardOf file) (vectorAt (boardOf file) t))) n) ≡ 1
+  pub vector-drives-once :
+      (t n : ℕ) → t < totalOf (boardOf file) → n < boardOf file .nets →
+      count (boardOf file .size) (live (boardOf file) (rowOn (boardOf file) (vectorRow (boardOf file) (vectorAt (boardOf file) t))) n) ≡ 1
   vector-drives-once t n l m =
       let b = boardOf file in
       let s = sound file ok in
       count-same (b .size) _ _ (live-same b s (vectorAt b t) n) ∙ group-drives-once file ok (vectorAt b t .group) (vector-group b t l .0) n m
 
   -- a control cell's bit is its on value exactly in the vectors of the groups that turn it on; so its turn is the group's (turn-in-time)
-  pub vector-turn : (k t : ℕ) → ControlCell (boardOf file) k → rowOn (boardOf file) (vectorRow (boardOf file) (vectorAt (boardOf file) t)) k ≡ onIn (boardOf file) (vectorAt (boardOf file) t .group) k
+  pub vector-turn :
+      (k t : ℕ) → ControlCell (boardOf file) k →
+      rowOn (boardOf file) (vectorRow (boardOf file) (vectorAt (boardOf file) t)) k ≡ onIn (boardOf file) (vectorAt (boardOf file) t .group) k
   vector-turn k t x = row-on (boardOf file) (vectorAt (boardOf file) t) k x
 
   -- a control cell that switches nothing has the other value in every vector
-  pub vector-idle-off : (k t : ℕ) → ControlCell (boardOf file) k → ((n : ℕ) → n < boardOf file .nets → drives (boardOf file) k n ≡ false) → rowOn (boardOf file) (vectorRow (boardOf file) (vectorAt (boardOf file) t)) k ≡ false
+  pub vector-idle-off :
+      (k t : ℕ) → ControlCell (boardOf file) k → ((n : ℕ) → n < boardOf file .nets → drives (boardOf file) k n ≡ false) →
+      rowOn (boardOf file) (vectorRow (boardOf file) (vectorAt (boardOf file) t)) k ≡ false
   vector-idle-off k t x none = vector-turn k t x ∙ idle-off file ok k none (vectorAt (boardOf file) t .group)

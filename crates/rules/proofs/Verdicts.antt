@@ -157,8 +157,17 @@ pub judge-same : (number places : ℕ) (f g : ℕ → Bool) → ((i : ℕ) → i
 judge-same number places f g h =
     ⊎-elim
     (λ (p : Passes (each number places g)). judge-passes (each number places f) [] (λ i l. h i l ∙ p i l) ∙ sym (judge-passes (each number places g) [] p))
-    (λ a. judge-applies (each number places f) [] (record { within = a .1 .within; applies = h (a .0) (a .1 .within) ∙ a .1 .applies; lowest = λ i l. h i (let w = a .1 .within in omega arith) ∙ a .1 .lowest i l }) ∙ sym (judge-applies (each number places g) [] (a .1)))
+    (λ a. judge-applies (each number places f) [] (applies (a .0) (a .1)) ∙ sym (judge-applies (each number places g) [] (a .1)))
     (cases (each number places g))
+  where
+    applies : (place : ℕ) → Applies (each number places g) place → Applies (each number places f) place
+    applies place a =
+        let w = a .within in
+        record {
+          within = w;
+          applies = h place w ∙ a .applies;
+          lowest = λ i l. h i (omega arith) ∙ a .lowest i l;
+        }
 
 -- a row of verdicts: the whole is the first, and where that accepts the rest. A program stops at a refusal, and goes on from an acceptance
 pub record Then (first rest whole : Verdict) : Type 0 where

@@ -105,7 +105,13 @@ unfoldable pub marksAnswer : List ℕ → List ℕ → List ℕ → MarksAnswer
 marksAnswer file capture buffer =
     let v : Verdict = judge (marksChecks file capture buffer) in
     let marks : List ℕ = marksOf (boardOf file) capture in
-    record { verdict = v; pass = unless v (bytesThat isPass marks) 0; fail = unless v (bytesThat isFail marks) 0; unsure = unless v (bytesThat isUnsure marks) 0; buffer = unless v (over marks buffer) buffer }
+    record {
+      verdict = v;
+      pass = unless v (bytesThat isPass marks) 0;
+      fail = unless v (bytesThat isFail marks) 0;
+      unsure = unless v (bytesThat isUnsure marks) 0;
+      buffer = unless v (over marks buffer) buffer;
+    }
 
 -- bits 8-23 pass; 24-39 fail; 40-55 unsure
 unfoldable pub marksOutcome : MarksAnswer → Outcome
