@@ -19,7 +19,11 @@ use Rattle.base.proofs.CountingLaws.{count-same}
 use Rattle.base.proofs.BoundLaws.{count-add, any-bound, all-bound}
 use Rattle.base.proofs.WordLaws.{bit-or, bit-zero, bit-pow, bit-shifted}
 use Rattle.base.proofs.ListLaws.{zero-at}
-use Rattle.words.specs.Sets.{member, nothing, plus, plusIf, upTo, meetsIn, insideIn}
+use Rattle.words.specs.Sets.{member, nothing, plus, plusIf, upTo, meetsIn, insideIn, mostWords, Alike}
+
+-- two lists of n words
+pub alike : (n : ℕ) → n ≤ mostWords → {a b : List ℕ} → length a ≡ n → length b ≡ n → Alike a b
+alike n h x y = record { long = x ∙ sym y; words-bounded = omega arith }
 
 -- number 64 * j + k is digit k of word j
 pub member-at : (ws : List ℕ) (j k : ℕ) → k < 64 → member ws (64 * j + k) ≡ bit (getD ws j 0) k
@@ -29,11 +33,11 @@ member-at ws j k h =
     let r : (64 * j + k) % 64 ≡ k = omega arith in
     rw (q, r)
 
--- word j of what an operation on digits makes of two sets, where word j of the first is still as it was
-pub combined-at : (op : Bool → Bool → Bool) (made : ℕ → ℕ → ℕ) → ((a b k : ℕ) → bit (made a b) k ≡ op (bit a k) (bit b k)) → (before from after : List ℕ) (j : ℕ) → getD after j 0 ≡ getD before j 0 → (k : ℕ) → k < 64 → bit (made (getD after j 0) (getD from j 0)) k ≡ op (member before (64 * j + k)) (member from (64 * j + k))
-combined-at op made each before from after j e k h =
-    each (getD after j 0) (getD from j 0) k
-    ∙ ap₂ op (ap (λ (w : ℕ). bit w k) e ∙ sym (member-at before j k h)) (sym (member-at from j k h))
+-- and so for two sets
+pub members-at :
+    (op : Bool → Bool → Bool) (a b : List ℕ) (j k : ℕ) → k < 64 →
+    op (member a (64 * j + k)) (member b (64 * j + k)) ≡ op (bit (getD a j 0) k) (bit (getD b j 0) k)
+members-at op a b j k h = ap₂ op (member-at a j k h) (member-at b j k h)
 
 -- from i on a number of the same word is, as far on, a digit of that word shifted down to i
 pub member-from : (ws : List ℕ) (i : ℕ) {m : ℕ} → i ≤ m → m < 64 * (i / 64 + 1) → member ws m ≡ bit (getD ws (i / 64) 0 / 2 ^ (i % 64)) (m - i)
@@ -64,7 +68,8 @@ member-other ws j w i h = ap (λ (v : ℕ). bit v (i % 64)) (getD-set-other ws j
 
 -- with one digit more in word i / 64, i is a member besides
 pub member-plus : (ws : List ℕ) (i : ℕ) → i < 64 * length ws → member (set ws (i / 64) (bitOr (getD ws (i / 64) 0) (2 ^ (i % 64)))) ≡ plus (member ws) i
-member-plus ws i h = fun-ext (λ m. ⊎-elim (λ e. same m (eqb-true _ _ e)) (λ e. other m (eqb-false _ _ e)) (decided (eqb (m / 64) (i / 64))))
+member-plus ws i h =
+    fun-ext (λ m. ⊎-elim (λ e. same m (eqb-true _ _ e)) (λ e. other m (eqb-false _ _ e)) (decided (eqb (m / 64) (i / 64))))
   where
     j : ℕ
     j = i / 64
@@ -75,7 +80,10 @@ member-plus ws i h = fun-ext (λ m. ⊎-elim (λ e. same m (eqb-true _ _ e)) (λ
     same : (m : ℕ) → m / 64 ≡ j → member (set ws j w) m ≡ (eqb m i || member ws m)
     same m e =
         let p : m ≡ 64 * j + m % 64 = omega arith in
-        let d : eqb (m % 64) (i % 64) ≡ eqb m i = same-test _ _ (λ t. eq-eqb m i (omega (arith, eqb-true (m % 64) (i % 64) t))) (λ t. eq-eqb (m % 64) (i % 64) (omega (arith, eqb-true m i t))) in
+        let d : eqb (m % 64) (i % 64) ≡ eqb m i =
+        same-test _ _
+        (λ t. eq-eqb m i (omega (arith, eqb-true (m % 64) (i % 64) t)))
+        (λ t. eq-eqb (m % 64) (i % 64) (omega (arith, eqb-true m i t))) in
         ap (member (set ws j w)) p
         ∙ member-set ws j w (m % 64) (omega arith) (omega arith)
         ∙ ap (λ (v : ℕ). bit v (m % 64)) (or-comm (getD ws j 0) (2 ^ (i % 64)))
@@ -115,9 +123,15 @@ module _ (f : ℕ → Bool) (before : List ℕ) where
   pub written-none : Written f before 0 before
   written-none = record { long = refl; done = λ i l. absurd (omega arith); rest = λ m l. refl }
 
-  pub written-more : {j : ℕ} {after : List ℕ} → Written f before j after → j < length before → (w : ℕ) → ((k : ℕ) → k < 64 → bit w k ≡ f (64 * j + k)) → Written f before (j + 1) (set after j w)
+  pub written-more :
+      {j : ℕ} {after : List ℕ} → Written f before j after → j < length before →
+      (w : ℕ) → ((k : ℕ) → k < 64 → bit w k ≡ f (64 * j + k)) → Written f before (j + 1) (set after j w)
   written-more {j} {after} r l w digits =
-      record { long = length-set after j w ∙ r .long; done = words-more (λ i. member (set after j w) i ≡ f i) j under here; rest = λ m q. getD-set-other after j m w 0 (λ e. omega arith) ∙ r .rest m (omega arith) }
+      record {
+        long = length-set after j w ∙ r .long;
+        done = words-more (λ i. member (set after j w) i ≡ f i) j under here;
+        rest = λ m q. getD-set-other after j m w 0 (λ e. omega arith) ∙ r .rest m (omega arith);
+      }
     where
       here : (k : ℕ) → k < 64 → member (set after j w) (64 * j + k) ≡ f (64 * j + k)
       here k q = member-set after j w k (omega (arith, r .long)) q ∙ digits k q
@@ -131,6 +145,31 @@ module _ (f : ℕ → Bool) (before : List ℕ) where
       (λ (l : i < 64 * length before). r .done i (omega arith))
       (λ (l : 64 * length before ≤ i). member-out after (omega (arith, r .long)) ∙ sym (out i l))
       (order i (64 * length before)))
+
+-- the words of two sets, combined by an operation on digits and written over the first set's
+module _
+    (op : Bool → Bool → Bool)
+    (made : ℕ → ℕ → ℕ)
+    (each : (a b k : ℕ) → bit (made a b) k ≡ op (bit a k) (bit b k))
+    (before from : List ℕ) where
+  abbrev combined : ℕ → Bool
+  combined m = op (member before m) (member from m)
+
+  pub combined-more :
+      {j : ℕ} {after : List ℕ} → Written combined before j after → j < length before →
+      Written combined before (j + 1) (set after j (made (getD after j 0) (getD from j 0)))
+  combined-more {j} {after} r l =
+      let own = r .rest j (omega arith) in
+      written-more combined before r l _
+      (λ k h. each (getD after j 0) (getD from j 0) k
+      ∙ ap (λ (w : ℕ). op (bit w k) (bit (getD from j 0) k)) own
+      ∙ sym (members-at op before from j k h))
+
+  pub combined-all :
+      {j : ℕ} {after : List ℕ} → Written combined before j after → length before ≤ j →
+      length before ≡ length from → op false false ≡ false → member after ≡ combined
+  combined-all r l e none =
+      written-all combined before r l (λ i h. ap₂ op (member-out before h) (member-out from (omega arith)) ∙ none)
 
 module _ (p : ℕ → Bool) where
   -- what n brings, by its test

@@ -7,10 +7,9 @@ use Rattle.words.specs.Sets.{netWords}
 use Rattle.words.proofs.NetSet.has.Statement.{statement}
 use Rattle.words.proofs.NetSet.has.Tie as tie
 
-has-requires : tie.Need-has-requires
-has-requires c κs =
-    let e : length (c .before .before .before .args .self .words) ≡ netWords = search needs in
-    omega arith
-
 pub has-spec : {M : Type 1} → statement M
-has-spec = tie.close (tie.spec (λ c. search needs) (λ c. search needs) has-requires (λ c. search needs))
+has-spec =
+    tie.close
+    (tie.spec (λ c. search needs) (λ c. search needs)
+    (λ c κs. let e : length (c .before .before .before .args .self .words) ≡ netWords = search needs in omega arith)
+    (λ c. search needs))

@@ -1,18 +1,13 @@
--- `words::NetSet::holds` meets its contract: both arrays have netWords words, so what `core` says of their length is said of that number.
+-- `words::NetSet::holds` meets its contract: both arrays have netWords words, so what the loop says of their length is said of that number.
 use Prim.Native.Nat.{_*_}
 use mathlib.Core.Path.{_≡_}
 use native.Mathlib.Omega.{arith}
 use borrow.Author.Needs.{needs}
 use lib.ListN.{length}
 use Rattle.words.specs.Sets.{netWords, member, insideIn}
+use Rattle.words.proofs.SetLaws.{alike}
 use Rattle.words.proofs.NetSet.holds.Statement.{statement}
 use Rattle.words.proofs.NetSet.holds.Tie as tie
-
-inside-requires : tie.Need-inside-requires
-inside-requires c κs =
-    let a : length (c .before .before .before .before .args .self .words) ≡ netWords = search needs in
-    let b : length (c .before .before .before .before .args .other .words) ≡ netWords = search needs in
-    omega arith
 
 returns : tie.Need-returns
 returns c =
@@ -23,4 +18,6 @@ returns c =
     rw b at said
 
 pub holds-spec : {M : Type 1} → statement M
-holds-spec = tie.close (tie.spec (λ c. search needs) (λ c. search needs) inside-requires returns)
+holds-spec =
+    tie.close
+    (tie.spec (λ c. search needs) (λ c. search needs) (λ c κs. alike netWords (omega arith) (search needs) (search needs)) returns)

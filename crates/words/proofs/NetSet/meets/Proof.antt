@@ -1,22 +1,16 @@
--- `words::NetSet::meets` meets its contract: both arrays have netWords words, so what `core` says of their length is said of that number.
+-- `words::NetSet::meets` meets its contract: both arrays have netWords words, so what the loop says of their length is said of that number.
 use mathlib.Core.Path.{_≡_}
 use native.Mathlib.Omega.{arith}
 use borrow.Author.Needs.{needs}
 use lib.ListN.{length}
 use Rattle.words.specs.Sets.{netWords}
+use Rattle.words.proofs.SetLaws.{alike}
 use Rattle.words.proofs.NetSet.meets.Statement.{statement}
 use Rattle.words.proofs.NetSet.meets.Tie as tie
 
-meets-requires : tie.Need-meets-requires
-meets-requires c κs =
-    let a : length (c .before .before .before .before .args .self .words) ≡ netWords = search needs in
-    let b : length (c .before .before .before .before .args .other .words) ≡ netWords = search needs in
-    omega arith
-
-returns : tie.Need-returns
-returns c =
-    let a : length (c .before .before .before .before .before .args .self .words) ≡ netWords = search needs in
-    rw a at (c .meets .ensures)
-
 pub meets-spec : {M : Type 1} → statement M
-meets-spec = tie.close (tie.spec (λ c. search needs) (λ c. search needs) meets-requires returns)
+meets-spec =
+    tie.close
+    (tie.spec (λ c. search needs) (λ c. search needs)
+    (λ c κs. alike netWords (omega arith) (search needs) (search needs))
+    (λ c. let a : length (c .before .before .before .before .before .args .self .words) ≡ netWords = search needs in rw a at (c .meets .ensures)))

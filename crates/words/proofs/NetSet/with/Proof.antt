@@ -7,10 +7,9 @@ use Rattle.words.specs.Sets.{netWords}
 use Rattle.words.proofs.NetSet.with.Statement.{statement}
 use Rattle.words.proofs.NetSet.with.Tie as tie
 
-add-requires : tie.Need-add-requires
-add-requires c κs =
-    let e : length (c .before .before .before .args .self .words) ≡ netWords = search needs in
-    omega arith
-
 pub with-spec : {M : Type 1} → statement M
-with-spec = tie.close (tie.spec (λ c. search needs) (λ c. search needs) add-requires (λ c. search needs))
+with-spec =
+    tie.close
+    (tie.spec (λ c. search needs) (λ c. search needs)
+    (λ c κs. let e : length (c .before .before .before .args .self .words) ≡ netWords = search needs in omega arith)
+    (λ c. search needs))

@@ -10,36 +10,52 @@ use Rattle.words.proofs.loops.compare.Statement.{statement}
 use Rattle.words.proofs.loops.compare.Tie as tie
 
 -- the three answers of the calls, and the relation that they say
-relation-by : (a b : List ℕ) {x y z : Bool} → Alike a b → x ≡ insideIn (64 * length a) (member a) (member b) → y ≡ insideIn (64 * length b) (member b) (member a) → z ≡ meetsIn (64 * length a) (member a) (member b) → relationBy x y z ≡ relationOf (64 * length a) (member a) (member b)
+relation-by :
+    (a b : List ℕ) {x y z : Bool} → Alike a b →
+    x ≡ insideIn (64 * length a) (member a) (member b) →
+    y ≡ insideIn (64 * length b) (member b) (member a) →
+    z ≡ meetsIn (64 * length a) (member a) (member b) →
+    relationBy x y z ≡ relationOf (64 * length a) (member a) (member b)
 unfolding relationOf
 relation-by a b s p q r = rw (p, q ∙ ap (λ (n : ℕ). insideIn (64 * n) (member b) (member a)) (sym (s .long)), r)
+
+-- the entry, from where it is known whether b holds a
+abbrev start : tie.After-inside → tie.Start
+start i = i .before .before .before
 
 returns : tie.Need-returns
 returns c =
     let i = c .before .before .before in
-    relation-by _ _ (i .before .before .before .pre) (sym (c .before .before .if1 .taken) ∙ i .inside .ensures) (sym (c .if2 .taken) ∙ c .before .inside2 .ensures) refl
+    let inside = sym (c .before .before .if1 .taken) ∙ i .inside .ensures in
+    relation-by _ _ (start i .pre) inside (sym (c .if2 .taken) ∙ c .before .inside2 .ensures) refl
 
 returns-2 : tie.Need-returns-2
 returns-2 c =
     let i = c .before .before .before in
-    relation-by _ _ (i .before .before .before .pre) (sym (c .before .before .if1 .taken) ∙ i .inside .ensures) (sym (c .if2 .left) ∙ c .before .inside2 .ensures) refl
+    let inside = sym (c .before .before .if1 .taken) ∙ i .inside .ensures in
+    relation-by _ _ (start i .pre) inside (sym (c .if2 .left) ∙ c .before .inside2 .ensures) refl
 
 returns-3 : tie.Need-returns-3
 returns-3 c =
     let i = c .before .before .before in
-    relation-by _ _ (i .before .before .before .pre) (sym (c .before .before .if1 .left) ∙ i .inside .ensures) (sym (c .if3 .taken) ∙ c .before .inside3 .ensures) refl
+    let inside = sym (c .before .before .if1 .left) ∙ i .inside .ensures in
+    relation-by _ _ (start i .pre) inside (sym (c .if3 .taken) ∙ c .before .inside3 .ensures) refl
 
 returns-4 : tie.Need-returns-4
 returns-4 c =
     let h = c .before .before in
     let i = h .before .before .before in
-    relation-by _ _ (i .before .before .before .pre) (sym (h .before .before .if1 .left) ∙ i .inside .ensures) (sym (h .if3 .left) ∙ h .before .inside3 .ensures) (sym (c .if4 .taken) ∙ c .before .meets .ensures)
+    let inside = sym (h .before .before .if1 .left) ∙ i .inside .ensures in
+    let holds = sym (h .if3 .left) ∙ h .before .inside3 .ensures in
+    relation-by _ _ (start i .pre) inside holds (sym (c .if4 .taken) ∙ c .before .meets .ensures)
 
 returns-5 : tie.Need-returns-5
 returns-5 c =
     let h = c .before .before in
     let i = h .before .before .before in
-    relation-by _ _ (i .before .before .before .pre) (sym (h .before .before .if1 .left) ∙ i .inside .ensures) (sym (h .if3 .left) ∙ h .before .inside3 .ensures) (sym (c .if4 .left) ∙ c .before .meets .ensures)
+    let inside = sym (h .before .before .if1 .left) ∙ i .inside .ensures in
+    let holds = sym (h .if3 .left) ∙ h .before .inside3 .ensures in
+    relation-by _ _ (start i .pre) inside holds (sym (c .if4 .left) ∙ c .before .meets .ensures)
 
 pub compare-spec : {M : Type 1} → statement M
 compare-spec =

@@ -28,7 +28,13 @@ highest w o h =
     let p : 0 < w = ⊎-elim (λ (q : 0 < w). q) (λ (q : w ≤ 0). absurd (omega (arith, ones-le 0 w (omega arith)))) (order 0 w) in
     let t = leading-top 64 w p h in
     let e : 63 - leadingZeros 64 w ≡ t .0 = omega (arith, t .1) in
-    record { place = t .0; zeros = omega (arith, t .1); found = rw e (one-shifted 64 (t .0) (omega (arith, t .1))); within = t .2; lower = omega (arith, t .2, t .3, two-pow-succ (t .0)) }
+    record {
+      place = t .0;
+      zeros = omega (arith, t .1);
+      found = rw e (one-shifted 64 (t .0) (omega (arith, t .1)));
+      within = t .2;
+      lower = omega (arith, t .2, t .3, two-pow-succ (t .0));
+    }
 
 -- without it the k lowest are the same, where there are more
 dropped : (k w : ℕ) (t : Highest w) → k < ones w → among k (bit (w - 2 ^ t .place)) ≡ among k (bit w)

@@ -1,6 +1,7 @@
--- `words::loops::inside` meets its contract: in the first j words each number of a is one of b, and a word joined to another is the other just where its digits are among the other's.
+-- `words::loops::inside` meets its contract: in the first j words each number of a is one of b, and a word joined to another is the other
+-- just where its digits are among the other's.
 use Prim.Native.Nat.{ℕ, _+_, _*_, _-_, _^_, _≤_, _<_}
-use mathlib.Core.Path.{_≡_, refl, sym, _∙_, ap, ap₂}
+use mathlib.Core.Path.{_≡_, refl, sym, _∙_, ap}
 use mathlib.Core.Bool.{Bool, true, false, not, _||_}
 use mathlib.Core.List.{List}
 use native.Mathlib.Omega.{arith}
@@ -14,57 +15,61 @@ use Rattle.base.proofs.TestLaws.{all-at, all-from}
 use Rattle.base.proofs.DigitLaws.{bits-equal}
 use Rattle.base.proofs.WordLaws.{bit-or}
 use Rattle.words.specs.Sets.{member, insideIn}
-use Rattle.words.proofs.SetLaws.{member-at, words-more}
+use Rattle.words.proofs.SetLaws.{members-at, words-more}
 use Rattle.words.proofs.loops.inside.Statement.{statement}
 use Rattle.words.proofs.loops.inside.Tie as tie
 
--- m is in b if it is in a; in word j, digit by digit
-abbrev within : List ℕ → List ℕ → ℕ → Bool
-within a b m = not (member a m) || member b m
-
-within-at : (a b : List ℕ) (j k : ℕ) → k < 64 → within a b (64 * j + k) ≡ (not (bit (getD a j 0) k) || bit (getD b j 0) k)
-within-at a b j k h = ap₂ (λ (x y : Bool). not x || y) (member-at a j k h) (member-at b j k h)
+-- in the one set only if in the other
+abbrev within : Bool → Bool → Bool
+within x y = not x || y
 
 -- a digit joined to another is the other just where the other has it if the first has it
-absorbed : (x y : Bool) → (x || y) ≡ y → (not x || y) ≡ true
+absorbed : (x y : Bool) → (x || y) ≡ y → within x y ≡ true
 absorbed true y e = sym e
 absorbed false y e = refl
 
-absorbs : (x y : Bool) → (not x || y) ≡ true → (x || y) ≡ y
+absorbs : (x y : Bool) → within x y ≡ true → (x || y) ≡ y
 absorbs true y e = sym e
 absorbs false y e = refl
 
--- word j adds no number of a that is not one of b, where a's word joined to b's is b's
-each-more : (a b : List ℕ) (j : ℕ) → ((i : ℕ) → i < 64 * j → within a b i ≡ true) → bitOr (getD a j 0) (getD b j 0) ≡ getD b j 0 → (i : ℕ) → i < 64 * (j + 1) → within a b i ≡ true
-each-more a b j each e =
-    words-more (λ i. within a b i ≡ true) j each (λ k h. within-at a b j k h ∙ absorbed (bit (getD a j 0) k) (bit (getD b j 0) k) (sym (bit-or (getD a j 0) (getD b j 0) k) ∙ ap (λ (w : ℕ). bit w k) e))
+module _ (a b : List ℕ) (j : ℕ) where
+  -- word j has no number of a that is not one of b, where a's word joined to b's is b's
+  each-here : bitOr (getD a j 0) (getD b j 0) ≡ getD b j 0 → (k : ℕ) → k < 64 → within (member a (64 * j + k)) (member b (64 * j + k)) ≡ true
+  each-here e k h =
+      members-at within a b j k h
+      ∙ absorbed (bit (getD a j 0) k) (bit (getD b j 0) k) (sym (bit-or (getD a j 0) (getD b j 0) k) ∙ ap (λ (w : ℕ). bit w k) e)
 
--- and else some number of a is not one of b
-fails-here : (a b : List ℕ) (j : ℕ) → j < length a → getD a j 0 < 2 ^ 64 → getD b j 0 < 2 ^ 64 → (bitOr (getD a j 0) (getD b j 0) ≡ getD b j 0 → ⊥) → insideIn (64 * length a) (member a) (member b) ≡ false
-unfolding insideIn
-fails-here a b j l x y e =
-    fails-if (all (64 * length a) (within a b)) (λ t. e (bits-equal 64 _ (getD b j 0) (or-lt 64 (getD a j 0) (getD b j 0) x y) y (λ k h. bit-or (getD a j 0) (getD b j 0) k ∙ absorbs (bit (getD a j 0) k) (bit (getD b j 0) k) (sym (within-at a b j k h) ∙ all-at (64 * length a) (within a b) t (omega arith)))))
+  -- and else some number of a is not one of b
+  fails-here :
+      j < length a → getD a j 0 < 2 ^ 64 → getD b j 0 < 2 ^ 64 → (bitOr (getD a j 0) (getD b j 0) ≡ getD b j 0 → ⊥) →
+      insideIn (64 * length a) (member a) (member b) ≡ false
+  unfolding insideIn
+  fails-here l x y e =
+      fails-if (all (64 * length a) (λ m. within (member a m) (member b m)))
+      (λ t. e (bits-equal 64 _ (getD b j 0) (or-lt 64 (getD a j 0) (getD b j 0) x y) y
+      (λ k h. bit-or (getD a j 0) (getD b j 0) k
+      ∙ absorbs (bit (getD a j 0) k) (bit (getD b j 0) k) (sym (members-at within a b j k h) ∙ all-at (64 * length a) _ t (omega arith)))))
 
 abbrev Inv-loop : tie.InvT-loop
-Inv-loop a b j₀ j = (j ≤ length a) × ((i : ℕ) → i < 64 * j → within a b i ≡ true)
+Inv-loop a b j₀ j = (j ≤ length a) × ((i : ℕ) → i < 64 * j → within (member a i) (member b i) ≡ true)
 
 abbrev μ-loop : tie.MeasureT-loop
 μ-loop a b j₀ j = length a - j
 
-loop-holds : tie.Need-loop-holds Inv-loop μ-loop
-loop-holds c = (omega arith, λ i h. absurd (omega arith))
-
 returns : tie.Need-returns Inv-loop μ-loop
 returns c =
-    let j = c .before .before .before .before .loop .j in
-    let a = c .before .before .before .before .before .args in
-    sym (fails-here (a .a .now) (a .b .now) j (c .before .before .before .loop-test .taken) (c .before .before .shared-slice-known .given j .fits) (c .before .shared-slice-known2 .given j .fits) (c .if1 .taken))
+    let r = c .before .before in
+    let l = r .before .before in
+    let a = l .before .args in
+    let j = l .loop .j in
+    sym (fails-here (a .a .now) (a .b .now) j (r .before .loop-test .taken)
+    (r .shared-slice-known .given j .fits) (c .before .shared-slice-known2 .given j .fits) (c .if1 .taken))
 
 loop-again : tie.Need-loop-again Inv-loop μ-loop
 loop-again c =
-    let l = c .before .before .before .before .loop in
-    let a = c .before .before .before .before .before .args in
-    (omega arith, each-more (a .a .now) (a .b .now) (l .j) (l .inv .1) (c .if1 .left))
+    let l = c .before .before .before .before in
+    let a = l .before .args in
+    (omega arith, words-more _ (l .loop .j) (l .loop .inv .1) (each-here (a .a .now) (a .b .now) (l .loop .j) (c .if1 .left)))
 
 returns-2 : tie.Need-returns-2 Inv-loop μ-loop
 unfolding insideIn
@@ -73,6 +78,7 @@ returns-2 c = sym (all-from _ _ (λ i h. c .before .loop .inv .1 i (omega arith)
 pub inside-spec : {M : Type 1} → statement M
 inside-spec =
     tie.close
-    (tie.spec Inv-loop μ-loop loop-holds
+    (tie.spec Inv-loop μ-loop
+    (λ c. (omega arith, λ i h. absurd (omega arith)))
     (λ c. search needs) (λ c. search needs) (λ c. search needs) (λ c. omega arith)
     returns (λ c. omega arith) (λ c. omega arith) loop-again returns-2)

@@ -1,6 +1,6 @@
 -- `words::loops::join` meets its contract: the first j words hold the members of both, the others are as they were.
 use Prim.Native.Nat.{_-_}
-use mathlib.Core.Path.{ap₂}
+use mathlib.Core.Path.{refl}
 use mathlib.Core.Bool.{_||_}
 use native.Mathlib.Omega.{arith}
 use borrow.Author.Needs.{needs}
@@ -8,7 +8,7 @@ use lib.Bits.{bitOr}
 use lib.ListN.{length}
 use Rattle.base.proofs.WordLaws.{bit-or}
 use Rattle.words.specs.Sets.{member, either}
-use Rattle.words.proofs.SetLaws.{combined-at, member-out, Written, written-none, written-more, written-all}
+use Rattle.words.proofs.SetLaws.{Written, written-none, combined-more, combined-all}
 use Rattle.words.proofs.loops.join.Statement.{statement}
 use Rattle.words.proofs.loops.join.Tie as tie
 
@@ -22,17 +22,10 @@ loop-holds : tie.Need-loop-holds Inv-loop μ-loop
 loop-holds c = written-none _ _
 
 loop-again : tie.Need-loop-again Inv-loop μ-loop
-loop-again c =
-    let l = c .before .before .before .loop in
-    let a = c .before .before .before .before .args in
-    written-more _ _ (l .inv) (omega arith) _
-    (combined-at _||_ bitOr bit-or (a .into .now) (a .from .now) (l .into) (l .j) (l .inv .rest (l .j) (omega arith)))
+loop-again c = combined-more _||_ bitOr bit-or _ _ (c .before .before .before .loop .inv) (omega arith)
 
 returns : tie.Need-returns Inv-loop μ-loop
-returns c =
-    let a = c .before .before .args in
-    written-all _ _ (c .before .loop .inv) (omega arith)
-    (λ i h. ap₂ _||_ (member-out (a .into .now) h) (member-out (a .from .now) (omega arith)))
+returns c = combined-all _||_ bitOr bit-or _ _ (c .before .loop .inv) (omega arith) (c .before .before .pre .long) refl
 
 pub join-spec : {M : Type 1} → statement M
 join-spec =

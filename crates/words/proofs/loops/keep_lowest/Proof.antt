@@ -1,5 +1,5 @@
 -- `words::loops::keep_lowest` meets its contract: the first j words hold their part of the k lowest, and `left` of the k are still to come.
-use Prim.Native.Nat.{ℕ, _+_, _*_, _-_, _^_, _≤_, _<_, min}
+use Prim.Native.Nat.{ℕ, _+_, _*_, _-_, _^_, _≤_, _<_}
 use mathlib.Core.Path.{_≡_, sym, _∙_, ap, ap₂}
 use mathlib.Core.Bool.{Bool, _&&_}
 use mathlib.Core.List.{List}
@@ -31,7 +31,9 @@ part-at ws k j i h =
   where
     room : (x y : ℕ) → y ≡ count (64 * j) (member ws) + x → ltb x (left-at ws k j) ≡ ltb y k
     room x y e =
-        same-test (ltb x (left-at ws k j)) (ltb y k) (λ t. lt-ltb y k (omega (arith, ltb-true x (left-at ws k j) t))) (λ t. lt-ltb x (left-at ws k j) (omega (arith, ltb-true y k t)))
+        same-test (ltb x (left-at ws k j)) (ltb y k)
+        (λ t. lt-ltb y k (omega (arith, ltb-true x (left-at ws k j) t)))
+        (λ t. lt-ltb x (left-at ws k j) (omega (arith, ltb-true y k t)))
 
 -- what word j keeps: its part, and how many then are left
 record Part (ws : List ℕ) (k j kept : ℕ) : Type 0 where
@@ -41,9 +43,10 @@ record Part (ws : List ℕ) (k j kept : ℕ) : Type 0 where
 
 part : (ws : List ℕ) (k j kept : ℕ) → kept < 2 ^ 64 → bit kept ≡ among (left-at ws k j) (bit (getD ws j 0)) → Part ws k j kept
 part ws k j kept h b =
-    let o : ones kept ≡ min (count 64 (bit (getD ws j 0))) (left-at ws k j) = sym (count-bits 64 kept h) ∙ ap (count 64) b ∙ count-among 64 (left-at ws k j) (bit (getD ws j 0)) in
+    let own = bit (getD ws j 0) in
+    let o = sym (count-bits 64 kept h) ∙ ap (count 64) b ∙ count-among 64 (left-at ws k j) own in
     let e : 64 * (j + 1) ≡ 64 * j + 64 = omega arith in
-    let c : count (64 * (j + 1)) (member ws) ≡ count (64 * j) (member ws) + count 64 (bit (getD ws j 0)) = rw e (members-count ws j 64 (omega arith)) in
+    let c : count (64 * (j + 1)) (member ws) ≡ count (64 * j) (member ws) + count 64 own = rw e (members-count ws j 64 (omega arith)) in
     record { digits = λ i l. ap (λ (f : ℕ → Bool). f i) b ∙ part-at ws k j i l; within = omega arith; next = omega arith }
 
 abbrev Inv-loop : tie.InvT-loop
@@ -56,11 +59,15 @@ loop-holds : tie.Need-loop-holds Inv-loop μ-loop
 unfolding count
 loop-holds c = (written-none _ _, omega arith)
 
+abbrev start : tie.After-cut Inv-loop μ-loop → tie.Start Inv-loop μ-loop
+start c = c .before .before .before .before .before
+
 -- the word that `cut` gave is word j's part, by the invariant
-here : (c : tie.After-cut Inv-loop μ-loop) → Part (c .before .before .before .before .before .args .words .now) (c .before .before .before .before .before .args .k) (c .before .before .before .loop .j) (c .cut .result)
+here : (c : tie.After-cut Inv-loop μ-loop) → Part (start c .args .words .now) (start c .args .k) (c .before .before .before .loop .j) (c .cut .result)
 here c =
     let l = c .before .before .before .loop in
-    part _ _ (l .j) (c .cut .result) (omega arith) (c .cut .ensures ∙ ap₂ (λ (n w : ℕ). among n (bit w)) (l .inv .1) (l .inv .0 .rest (l .j) (omega arith)))
+    let own = ap₂ (λ (n w : ℕ). among n (bit w)) (l .inv .1) (l .inv .0 .rest (l .j) (omega arith)) in
+    part _ _ (l .j) (c .cut .result) (omega arith) (c .cut .ensures ∙ own)
 
 loop-again : tie.Need-loop-again Inv-loop μ-loop
 loop-again c =

@@ -1,4 +1,5 @@
--- `words::loops::next` meets its contract: from `from` to i there is no member, and the lowest one of word i / 64, shifted down to i, is the lowest member from i on.
+-- `words::loops::next` meets its contract: from `from` to i there is no member, and the lowest one of word i / 64, shifted down to i, is
+-- the lowest member from i on.
 use Prim.Native.Nat.{ℕ, _+_, _*_, _-_, _/_, _%_, _^_, _≤_, _<_}
 use mathlib.Core.Path.{_≡_, sym, _∙_, ap}
 use mathlib.Core.Logic.{⊎-elim}
@@ -21,29 +22,48 @@ use Rattle.words.proofs.loops.next.Tie as tie
 -- where none passes before i, the lowest from i on is the lowest
 lowest-on : {p : ℕ → Bool} {from i to at : ℕ} → Lowest p from i i → Lowest p i to at → Lowest p from to at
 lowest-on {i = i} a b =
-    record { above = omega arith; under = b .under; passes = b .passes; lower = λ j l h. ⊎-elim (λ (q : j < i). a .lower j l q) (λ (q : i ≤ j). b .lower j q h) (order j i) }
+    record {
+      above = omega arith;
+      under = b .under;
+      passes = b .passes;
+      lower = λ j l h. ⊎-elim (λ (q : j < i). a .lower j l q) (λ (q : i ≤ j). b .lower j q h) (order j i);
+    }
+
+-- word i / 64, shifted down to i
+abbrev shifted : List ℕ → ℕ → ℕ
+shifted ws i = getD ws (i / 64) 0 / 2 ^ (i % 64)
 
 module _ (ws : List ℕ) (i : ℕ) where
   -- no member from i to the end of its word, where that word is zero from i on
-  none-here : getD ws (i / 64) 0 / 2 ^ (i % 64) ≡ 0 → Lowest (member ws) i (64 * (i / 64 + 1)) (64 * (i / 64 + 1))
+  none-here : shifted ws i ≡ 0 → Lowest (member ws) i (64 * (i / 64 + 1)) (64 * (i / 64 + 1))
   none-here e =
-      record { above = omega arith; under = omega arith; passes = λ h. absurd (omega arith); lower = λ m l h. member-from ws i l h ∙ ap (λ (w : ℕ). bit w (m - i)) e ∙ bit-zero (m - i) }
+      record {
+        above = omega arith;
+        under = omega arith;
+        passes = λ h. absurd (omega arith);
+        lower = λ m l h. member-from ws i l h ∙ ap (λ (w : ℕ). bit w (m - i)) e ∙ bit-zero (m - i);
+      }
 
   -- and else the lowest member is there
-  lowest-here : i / 64 < length ws → getD ws (i / 64) 0 < 2 ^ 64 → (getD ws (i / 64) 0 / 2 ^ (i % 64) ≡ 0 → ⊥) → Lowest (member ws) i (64 * length ws) (i + trailingZeros 64 (getD ws (i / 64) 0 / 2 ^ (i % 64)))
-  lowest-here l h e = go (trailingZeros 64 w) (trailing-lowest 64 w)
+  lowest-here :
+      i / 64 < length ws → getD ws (i / 64) 0 < 2 ^ 64 → (shifted ws i ≡ 0 → ⊥) →
+      Lowest (member ws) i (64 * length ws) (i + trailingZeros 64 (shifted ws i))
+  lowest-here l h e = go (trailingZeros 64 (shifted ws i)) (trailing-lowest 64 (shifted ws i))
     where
-      w : ℕ
-      w = getD ws (i / 64) 0 / 2 ^ (i % 64)
-
-      word-bounded : w < 2 ^ (64 - i % 64)
+      word-bounded : shifted ws i < 2 ^ (64 - i % 64)
       word-bounded = let n : (64 - i % 64) + i % 64 ≡ 64 = omega arith in shr-lt (64 - i % 64) (i % 64) (rw n h)
 
-      go : (t : ℕ) → Lowest (bit w) 0 64 t → Lowest (member ws) i (64 * length ws) (i + t)
+      go : (t : ℕ) → Lowest (bit (shifted ws i)) 0 64 t → Lowest (member ws) i (64 * length ws) (i + t)
       go t s =
-          let q : t < 64 - i % 64 = ⊎-elim (λ (q : t < 64 - i % 64). q) (λ (q : 64 - i % 64 ≤ t). absurd (e (none-zero (64 - i % 64) w word-bounded (λ k m. s .lower k (omega arith) (omega arith))))) (order t (64 - i % 64)) in
+          let zero : 64 - i % 64 ≤ t → shifted ws i ≡ 0 = λ q. none-zero (64 - i % 64) _ word-bounded (λ k m. s .lower k (omega arith) (omega arith)) in
+          let q : t < 64 - i % 64 = ⊎-elim (λ q. q) (λ q. absurd (e (zero q))) (order t (64 - i % 64)) in
           let x : i + t - i ≡ t = omega arith in
-          record { above = omega arith; under = omega arith; passes = λ m. member-from ws i {m = i + t} (omega arith) (omega arith) ∙ ap (bit w) x ∙ s .passes (omega arith); lower = λ m a b. member-from ws i a (omega arith) ∙ s .lower (m - i) (omega arith) (omega arith) }
+          record {
+            above = omega arith;
+            under = omega arith;
+            passes = λ m. member-from ws i {m = i + t} (omega arith) (omega arith) ∙ ap (bit (shifted ws i)) x ∙ s .passes (omega arith);
+            lower = λ m a b. member-from ws i a (omega arith) ∙ s .lower (m - i) (omega arith) (omega arith);
+          }
 
 abbrev Inv-loop : tie.InvT-loop
 Inv-loop words from i₀ i = (i ≤ 64 * length words) × Lowest (member words) from i i
@@ -55,13 +75,17 @@ loop-holds : tie.Need-loop-holds Inv-loop μ-loop
 loop-holds c =
     (omega arith, record { above = omega arith; under = omega arith; passes = λ h. absurd (omega arith); lower = λ j l h. absurd (omega arith) })
 
-zeros : (c : tie.Then1 Inv-loop μ-loop) → trailingZeros 64 (getD (c .before .before .before .before .args .words .now) (c .before .before .before .loop .i / 64) 0 / 2 ^ (c .before .before .before .loop .i % 64)) ≤ 64
+abbrev at-loop : tie.Then1 Inv-loop μ-loop → tie.At-loop Inv-loop μ-loop
+at-loop c = c .before .before .before
+
+zeros : (c : tie.Then1 Inv-loop μ-loop) → trailingZeros 64 (shifted (at-loop c .before .args .words .now) (at-loop c .loop .i)) ≤ 64
 zeros c = trailing-le 64 _
 
 returns : tie.Need-returns Inv-loop μ-loop
 returns c =
-    let l = c .before .before .before .loop in
-    sym (seek-at _ (lowest-on (l .inv .1) (lowest-here _ (l .i) (c .before .before .loop-test .taken) (c .before .shared-slice-known .given (l .i / 64) .fits) (c .if1 .taken))))
+    let l = at-loop c .loop in
+    let fits = c .before .shared-slice-known .given (l .i / 64) .fits in
+    sym (seek-at _ (lowest-on (l .inv .1) (lowest-here _ (l .i) (c .before .before .loop-test .taken) fits (c .if1 .taken))))
 
 loop-again : tie.Need-loop-again Inv-loop μ-loop
 loop-again c =
