@@ -14,7 +14,10 @@ use Rattle.rules.proofs.Codes.{width-least}
 pub digits-width : (k nets : ℕ) → nets + 1 < 2 ^ k → k - leadingZeros k (nets + 1) ≡ codeWidth nets
 digits-width k nets h = go (leading-top k (nets + 1) (omega arith) h) (width-least nets)
   where
-    go : (j : ℕ) × (leadingZeros k (nets + 1) + suc j ≡ k) × (2 ^ j ≤ nets + 1) × (nets + 1 < 2 ^ suc j) → (nets + 2 ≤ 2 ^ codeWidth nets) × ((q : ℕ) → q < codeWidth nets → 2 ^ q < nets + 2) → k - leadingZeros k (nets + 1) ≡ codeWidth nets
+    go :
+        (j : ℕ) × (leadingZeros k (nets + 1) + suc j ≡ k) × (2 ^ j ≤ nets + 1) × (nets + 1 < 2 ^ suc j) →
+        (nets + 2 ≤ 2 ^ codeWidth nets) × ((q : ℕ) → q < codeWidth nets → 2 ^ q < nets + 2) →
+        k - leadingZeros k (nets + 1) ≡ codeWidth nets
     go (j, e, low, high) (wide, narrow) =
         ⊎-elim
         (λ (l : suc j < codeWidth nets). absurd (omega (arith, narrow (suc j) l)))

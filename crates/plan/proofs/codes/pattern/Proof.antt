@@ -30,8 +30,13 @@ loop-again c =
     let l = c .before .before .before .loop in
     let e = l .inv .0 in
     let n = c .before .before .before .before .pre .2 in
-    let t = c .before .before .loop-test .taken in
-    (e, l .inv .1, omega arith, written-more _ _ (l .inv .3) (omega arith) _ (λ k h. c .cut .ensures k h ∙ ap (λ (d : Bool). ltb (64 * l .w + k) (a .nets) && d) (c .before .code-word .ensures .digits k h)))
+    let t = c .before .before .loop-test .taken in (
+      e,
+      l .inv .1,
+      omega arith,
+      written-more _ _ (l .inv .3) (omega arith) _
+          (λ k h. c .cut .ensures k h ∙ ap (λ (d : Bool). ltb (64 * l .w + k) (a .nets) && d) (c .before .code-word .ensures .digits k h)),
+    )
 
 returns : tie.Need-returns Inv-loop μ-loop
 unfolding upTo

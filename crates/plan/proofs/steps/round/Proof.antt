@@ -3,7 +3,8 @@ use Prim.Native.Nat.{_-_, _≤_}
 use mathlib.Core.Path.{_≡_, sym, _∙_, ap}
 use native.Mathlib.Omega.{arith}
 use Rattle.words.specs.Sets.{member}
-use Rattle.plan.specs.Plans.{basesFor, fullStart, roundOf}
+use Rattle.plan.specs.declared.steps.Plan.{Plan}
+use Rattle.plan.specs.Plans.{basesFor, fullAfter, fullStart, roundOf, Small}
 use Rattle.plan.proofs.RoundLaws.{between-is, full-zero, full-next, full-low, full-start-low}
 use Rattle.plan.proofs.steps.round.Statement.{statement}
 use Rattle.plan.proofs.steps.round.Tie as tie
@@ -24,30 +25,35 @@ add-base-values c = let s = c .before .before .before .before .pre in let n = s 
 inserted-between-requires : tie.Need-inserted-between-requires Inv-loop μ-loop
 inserted-between-requires c κs = let s = c .before .before .before .before .before .pre in (s .limited, s .limit-bounded)
 
+-- after the call: where the loop stood, and what the call counted
+abbrev at-loop : tie.After-inserted-between Inv-loop μ-loop → tie.At-loop Inv-loop μ-loop
+at-loop c = c .before .before .before .before
+
+abbrev plan : tie.After-inserted-between Inv-loop μ-loop → Plan
+plan c = at-loop c .before .before .args .plan
+
+small : (c : tie.After-inserted-between Inv-loop μ-loop) → Small (plan c)
+small c = at-loop c .before .before .pre
+
+told : (c : tie.After-inserted-between Inv-loop μ-loop) → c .inserted-between .result ≡ fullAfter (plan c) (at-loop c .loop .j)
+told c = c .inserted-between .ensures ∙ between-is _ (small c) _ _ _ (at-loop c .loop .inv .2) (c .before .base-values2 .ensures)
+
 add-n : tie.Need-add-n Inv-loop μ-loop
-add-n c =
-    let s = c .before .before .before .before .before .before .pre in
-    let e = c .inserted-between .ensures ∙ between-is _ s _ _ _ (c .before .before .before .before .loop .inv .2) (c .before .base-values2 .ensures) in
-    omega (arith, full-low _ s (c .before .before .before .before .loop .j))
+add-n c = let e = told c in omega (arith, full-low _ (small c) (at-loop c .loop .j))
 
 add-n-2 : tie.Need-add-n-2 Inv-loop μ-loop
 add-n-2 c =
-    let s = c .before .before .before .before .before .before .pre in
-    let n = c .before .before .before .before .loop .inv .1 in
-    let w = s .narrow in
-    let e = c .inserted-between .ensures ∙ between-is _ s _ _ _ (c .before .before .before .before .loop .inv .2) (c .before .base-values2 .ensures) in
-    omega (arith, c .before .before .if1 .taken, full-low _ s (c .before .before .before .before .loop .j), full-start-low _ s (c .before .before .before .before .loop .j))
-
-add-j : tie.Need-add-j Inv-loop μ-loop
-add-j c = let s = c .before .before .before .before .before .before .pre in let n = s .narrow in omega (arith, c .before .before .if1 .taken)
+    let e = told c in
+    let l = at-loop c .loop in
+    let n = l .inv .1 in
+    let w = small c .narrow in
+    omega (arith, c .before .before .if1 .taken, full-low _ (small c) (l .j), full-start-low _ (small c) (l .j))
 
 loop-again : tie.Need-loop-again Inv-loop μ-loop
 loop-again c =
-    let s = c .before .before .before .before .before .before .pre in
-    let inv = c .before .before .before .before .loop .inv in
-    let n = inv .1 in
-    let e = c .inserted-between .ensures ∙ between-is _ s _ _ _ (inv .2) (c .before .base-values2 .ensures) in
-    (omega (arith, c .before .before .if1 .taken), omega (arith, full-next (c .before .before .before .before .before .before .args .plan) (c .before .before .before .before .loop .j)), c .before .base-values2 .ensures)
+    let e = told c in
+    let n = at-loop c .loop .inv .1 in
+    (omega (arith, c .before .before .if1 .taken), omega (arith, full-next (plan c) (at-loop c .loop .j)), c .before .base-values2 .ensures)
 
 returns : tie.Need-returns Inv-loop μ-loop
 unfolding roundOf
@@ -60,4 +66,17 @@ returns c =
 pub round-spec : {M : Type 1} → statement M
 round-spec =
     tie.close
-    (tie.spec Inv-loop μ-loop (λ c κs. c .pre) loop-holds add-base-values (λ c κs. c .before .before .before .before .pre) inserted-between-requires add-n add-n-2 add-j (λ c. omega (arith, c .before .before .if1 .taken)) loop-again returns)
+    (tie.spec
+    Inv-loop
+    μ-loop
+    (λ c κs. c .pre)
+    loop-holds
+    add-base-values
+    (λ c κs. c .before .before .before .before .pre)
+    inserted-between-requires
+    add-n
+    add-n-2
+    (λ c. let n = small c .narrow in omega (arith, c .before .before .if1 .taken))
+    (λ c. omega (arith, c .before .before .if1 .taken))
+    loop-again
+    returns)

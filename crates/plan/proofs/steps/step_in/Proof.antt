@@ -1,9 +1,10 @@
 -- What is left of t is its place in part j of the round.
-use Prim.Native.Nat.{_+_, _<_}
+use Prim.Native.Nat.{_+_, _*_, _<_}
 use mathlib.Core.Path.{_≡_}
 use native.Mathlib.Omega.{arith}
 use borrow.Author.Needs.{needs}
-use Rattle.plan.specs.Plans.{fullAfter, fullStart}
+use Rattle.rules.specs.File.{mostNumber}
+use Rattle.plan.specs.Plans.{mostPatterns, fullAfter, fullStart}
 use Rattle.plan.proofs.StepLaws.{size-low}
 use Rattle.plan.proofs.RoundLaws.{full-zero, full-next, round-below, round-on, turn-low, turn-base, turn-inserted}
 use Rattle.plan.proofs.steps.step_in.Statement.{statement}
@@ -35,14 +36,12 @@ loop-again c =
     let e = inv .2 in
     (round-on _ _ _ _ (p .1 .0) (inv .0) (inv .1) (rw (← inv .2) t), omega arith, c .full-after2 .ensures)
 
-mul-i : tie.Need-mul-i Inv-loop μ-loop
-mul-i c =
-    let p = c .before .before .before .before .pre in
-    let inv = c .before .before .loop .inv in
-    omega (arith, size-low _ (p .0), turn-low _ (p .0) _ _ _ _ (p .1 .1) (inv .0) (inv .1))
-
-add-i : tie.Need-add-i Inv-loop μ-loop
-add-i c =
+-- part j of the turn is one of the plan's
+part-low :
+    (c : tie.After-struct-known Inv-loop μ-loop) →
+    let a = c .before .before .before .before .args in
+    a .turn * a .plan .wide + c .before .before .loop .j < mostNumber * mostPatterns
+part-low c =
     let p = c .before .before .before .before .pre in
     let inv = c .before .before .loop .inv in
     omega (arith, size-low _ (p .0), turn-low _ (p .0) _ _ _ _ (p .1 .1) (inv .0) (inv .1))
@@ -62,4 +61,18 @@ returns-2 c =
 pub step-in-spec : {M : Type 1} → statement M
 step-in-spec =
     tie.close
-    (tie.spec Inv-loop μ-loop (λ c κs. let s = c .pre .0 in (s, round-below _ s _ (s .coded))) loop-holds (λ c. search needs) (λ c. omega (arith, c .loop-test .taken)) (λ c. let n = c .before .before .before .pre .0 .narrow in omega (arith, c .before .loop .inv .0)) full-after-requires-2 (λ c. omega (arith, c .before .loop-test .taken)) loop-again mul-i add-i returns returns-2)
+    (tie.spec
+    Inv-loop
+    μ-loop
+    (λ c κs. let s = c .pre .0 in (s, round-below _ s _ (s .coded)))
+    loop-holds
+    (λ c. search needs)
+    (λ c. omega (arith, c .loop-test .taken))
+    (λ c. let n = c .before .before .before .pre .0 .narrow in omega (arith, c .before .loop .inv .0))
+    full-after-requires-2
+    (λ c. omega (arith, c .before .loop-test .taken))
+    loop-again
+    (λ c. omega (arith, part-low c))
+    (λ c. omega (arith, part-low c))
+    returns
+    returns-2)
