@@ -9,7 +9,10 @@ use Rattle.rules.specs.File.{added, sumsFrom}
 use Rattle.rules.specs.declared.Sums.{Sums}
 
 -- a and b after the byte at i give, with the bytes from i + 1 on, what they gave before it with those from i on
-pub sums-next : (bytes : List ℕ) (i a b : ℕ) {a′ b′ : ℕ} → i < length bytes → a′ ≡ (a + getD bytes i 0) % 2 ^ 16 → b′ ≡ (b + a′) % 2 ^ 16 → sumsFrom (record { a = a′; b = b′ }) (drop (i + 1) bytes) ≡ sumsFrom (record { a = a; b = b }) (drop i bytes)
+pub sums-next :
+    (bytes : List ℕ) (i a b : ℕ) {a′ b′ : ℕ} → i < length bytes →
+    a′ ≡ (a + getD bytes i 0) % 2 ^ 16 → b′ ≡ (b + a′) % 2 ^ 16 →
+    sumsFrom (record { a = a′; b = b′ }) (drop (i + 1) bytes) ≡ sumsFrom (record { a = a; b = b }) (drop i bytes)
 unfolding sumsFrom added
 sums-next bytes i a b h ea eb = rw (eb, ea, add-one, drop-cons bytes i 0)
 

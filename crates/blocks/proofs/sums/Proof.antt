@@ -24,7 +24,10 @@ cast-wrapping-add-u16 c = omega (arith, c .shared-slice-known2 .given (c .before
 
 loop-again : tie.Need-loop-again Inv-loop μ-loop
 loop-again c =
-    (omega arith, sums-next _ _ _ _ (c .before .before .before .loop-test .taken) (c .before .wrapping-add-u16 .ensures) (c .wrapping-add-u162 .ensures) ∙ c .before .before .before .before .loop .inv .1)
+    let t = c .before .before .before in (
+      omega arith,
+      sums-next _ _ _ _ (t .loop-test .taken) (c .before .wrapping-add-u16 .ensures) (c .wrapping-add-u162 .ensures) ∙ t .before .loop .inv .1,
+    )
 
 returns : tie.Need-returns Inv-loop μ-loop
 returns c =

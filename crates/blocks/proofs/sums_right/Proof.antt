@@ -15,7 +15,12 @@ use Rattle.blocks.proofs.sums_right.Statement.{statement}
 use Rattle.blocks.proofs.sums_right.Tie as tie
 
 -- the definition's tests, of sums and numbers as the code has them
-read-right : (file : List ℕ) (i : ℕ) (sums : Sums) {a b : ℕ} → sums ≡ sumsOf (take (blockSize * i + summed - blockSize * i) (drop (blockSize * i) file)) → a ≡ numberAt file (blockSize * i + summed) → b ≡ numberAt file (blockSize * i + summed + 2) → (eqb a (sums .a) && eqb b (sums .b)) ≡ sumsRight file i
+read-right :
+    (file : List ℕ) (i : ℕ) (sums : Sums) {a b : ℕ} →
+    sums ≡ sumsOf (take (blockSize * i + summed - blockSize * i) (drop (blockSize * i) file)) →
+    a ≡ numberAt file (blockSize * i + summed) →
+    b ≡ numberAt file (blockSize * i + summed + 2) →
+    (eqb a (sums .a) && eqb b (sums .b)) ≡ sumsRight file i
 unfolding sumsRight blockAt
 read-right file i sums es ea eb =
     let cut : blockSize * i + summed - blockSize * i ≡ summed = omega arith in
@@ -23,13 +28,18 @@ read-right file i sums es ea eb =
 
 returns : tie.Need-returns
 returns c =
-    and-next refl (eq-eqb _ _ (c .before .before .if1 .taken)) refl ∙ read-right _ _ _ (c .before .before .before .before .before .sums .ensures) (c .before .before .before .before .number .ensures) (c .before .number2 .ensures)
+    let t = c .before .before in
+    and-next refl (eq-eqb _ _ (t .if1 .taken)) refl
+    ∙ read-right _ _ _ (t .before .before .before .sums .ensures) (t .before .before .number .ensures) (c .before .number2 .ensures)
 
 returns-2 : tie.Need-returns-2
 returns-2 c =
-    and-stop _ refl (ne-eqb _ _ (c .if1 .left)) refl ∙ read-right _ _ _ (c .before .before .before .sums .ensures) (c .before .before .number .ensures) refl
+    and-stop _ refl (ne-eqb _ _ (c .if1 .left)) refl
+    ∙ read-right _ _ _ (c .before .before .before .sums .ensures) (c .before .before .number .ensures) refl
 
 pub sums-right-spec : {M : Type 1} → statement M
 sums-right-spec =
     tie.close
-    (tie.spec (λ c. search needs) (λ c. search needs) (λ c. search needs) (λ c. search needs) (λ c. search needs) (λ c κs. search needs) (λ c κs. search needs) (λ c. search needs) (λ c. search needs) (λ c κs. search needs) (λ c. search needs) returns returns-2)
+    (tie.spec
+    (λ c. search needs) (λ c. search needs) (λ c. search needs) (λ c. search needs) (λ c. search needs) (λ c κs. search needs)
+    (λ c κs. search needs) (λ c. search needs) (λ c. search needs) (λ c κs. search needs) (λ c. search needs) returns returns-2)
