@@ -16,4 +16,6 @@ abbrev μ-loop : tie.MeasureT-loop
 pub put-row-spec : {M : Type 1} → statement M
 put-row-spec =
     tie.close
-    (tie.spec Inv-loop μ-loop (λ c. search needs) (λ c. omega arith) (λ c κs. omega arith) (λ c. omega arith) (λ c. omega arith) (λ c. (omega arith, omega arith, omega arith)) (λ c. search needs) (λ c. omega arith))
+    (tie.spec Inv-loop μ-loop
+    (λ c. search needs) (λ c. omega arith) (λ c κs. omega arith) (λ c. omega arith) (λ c. omega arith)
+    (λ c. (omega arith, omega arith, omega arith)) (λ c. search needs) (λ c. omega arith))
