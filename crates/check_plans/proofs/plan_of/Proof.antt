@@ -12,7 +12,15 @@ returns c =
     let n = p .0 in
     let nets = c .before .args .nets in
     let l = width-low mostWidth nets (omega arith) in
-    record { nets = p .0; coded = rw (c .width .ensures) (width-some nets); narrow = rw (c .width .ensures) (omega arith); turns = p .1; groups-bounded = omega (arith, p .2); limited = p .3; limit-bounded = omega (arith, p .4) }
+    record {
+      nets = p .0;
+      coded = rw (c .width .ensures) (width-some nets);
+      narrow = rw (c .width .ensures) (omega arith);
+      turns = p .1;
+      groups-bounded = omega (arith, p .2);
+      limited = p .3;
+      limit-bounded = omega (arith, p .4);
+    }
 
 pub plan-of-spec : {M : Type 1} → statement M
 plan-of-spec = tie.close (tie.spec (λ c κs. search needs) returns)

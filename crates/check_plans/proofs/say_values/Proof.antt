@@ -14,4 +14,6 @@ abbrev μ-loop : tie.MeasureT-loop
 pub say-values-spec : {M : Type 1} → statement M
 say-values-spec =
     tie.close
-    (tie.spec Inv-loop μ-loop (λ c. omega arith) (λ c κs. omega (arith, c .before .before .pre, c .loop-test .taken)) (λ c. search needs) (λ c. search needs) (λ c. omega (arith, c .before .loop-test .taken)) (λ c. tt))
+    (tie.spec Inv-loop μ-loop
+    (λ c. omega arith) (λ c κs. omega (arith, c .before .before .pre, c .loop-test .taken))
+    (λ c. search needs) (λ c. search needs) (λ c. omega (arith, c .before .loop-test .taken)) (λ c. tt))
