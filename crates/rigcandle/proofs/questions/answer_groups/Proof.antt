@@ -7,12 +7,12 @@ use borrow.Author.Needs.{needs}
 use borrow.Author.Tests.{ltb-false}
 use Rattle.rules.specs.Rows.{rowBytes}
 use Rattle.rules.specs.File.{cellsOf}
-use Rattle.rules.specs.Refusals.{judge, groupsChecks, mostCells}
+use Rattle.rules.specs.Refusals.{judge, short, groupsChecks, mostCells}
 use Rattle.rules.proofs.Shape.{laid, shaped, one-block}
-use Rattle.rules.proofs.Verdicts.{passed}
+use Rattle.rules.proofs.CheckLaws.{once-accepted}
 use Rattle.chains.proofs.Walks.{cells-fit}
 use Rattle.rows.proofs.GroupRows.{place-low}
-use Rattle.rigcandle.proofs.AnswerLaws.{row-groups, groups-refused, groups-accepted, once-off, room-is}
+use Rattle.rigcandle.proofs.AnswerLaws.{groups-refused, groups-accepted, rest-decides, check-by}
 use Rattle.rigcandle.proofs.AdmittedLaws.{groups-few}
 use Rattle.rigcandle.proofs.questions.answer_groups.Statement.{statement}
 use Rattle.rigcandle.proofs.questions.answer_groups.Tie as tie
@@ -27,6 +27,9 @@ planned c = c .before .before .before
 abbrev file : tie.After-plan-of → List ℕ
 file c = start c .args .file .now
 
+abbrev out : tie.After-plan-of → List ℕ
+out c = start c .args .out .now
+
 -- the number of cells, and that it is small
 cells-are : (c : tie.After-plan-of) → c .before .before .read-sizes .result .cells ≡ cellsOf (file c)
 cells-are c = c .before .before .read-sizes .ensures .cells
@@ -38,13 +41,12 @@ small c =
     omega arith
 
 -- what the room's check is
-judged : (c : tie.After-once) → c .once .result ≡ judge (groupsChecks (file (planned c)) (start (planned c) .args .out .now))
+judged : (c : tie.After-once) → c .once .result ≡ judge (groupsChecks (file (planned c)) (out (planned c)))
+unfolding groupsChecks
 judged c =
     let p = planned c in
-    let a = start p .args in
-    let bytes = c .before .before in
-    let needed = ap₂ _*_ (p .plan-of .ensures .groups-are) (bytes .row-bytes .ensures ∙ ap rowBytes (cells-are p)) in
-    passed (row-groups (file p) (a .out .now)) refl (start p .pre .counted) (room-is (a .out .now) _ _ _ (c .once .ensures) needed)
+    let needed = ap₂ _*_ (p .plan-of .ensures .groups-are) (c .before .before .row-bytes .ensures ∙ ap rowBytes (cells-are p)) in
+    rest-decides _ (start p .pre .counted) _ (check-by (short (out p)) (c .once .ensures) needed)
 
 mul-once : tie.Need-mul-once
 mul-once c =
@@ -54,17 +56,14 @@ mul-once c =
 
 returns : tie.Need-returns
 returns c =
-    let o = c .before .before .before in
-    let p = planned o in
-    let r = groups-refused (file p) (start p .args .out .now) _ _ (judged o) (c .before .enum-told2 .given .1) in
-    (c .verdict-bits .ensures ∙ r .0, r .1)
+    groups-refused (c .verdict-bits .ensures) (c .before .enum-told2 .given .1) _ _ (judged (c .before .before .before))
 
 write-groups-requires : tie.Need-write-groups-requires
 write-groups-requires c κs =
     let told = c .before .before in
     let o = told .before .before in
     let p = planned o in
-    let room = ltb-false _ _ (once-off _ _ _ (o .once .ensures) (told .enum-told .given .1)) in
+    let room = ltb-false _ _ (once-accepted _ _ (sym (o .once .ensures) ∙ told .enum-told .given .1)) in
     record {
       ready = start p .pre .ready;
       cells-are = cells-are p;
@@ -86,9 +85,8 @@ returns-2 c =
     let w = c .before .before .before in
     let told = found w in
     let o = told .before .before in
-    let p = planned o in
-    let r = groups-accepted (file p) (start p .args .out .now) _ _ (sym (judged o) ∙ told .enum-told .given .1) (p .plan-of .ensures .groups-are) (w .write-groups .ensures) in
-    (c .group-bits .ensures ∙ r .0, r .1)
+    let ok = sym (judged o) ∙ told .enum-told .given .1 in
+    groups-accepted _ _ (c .group-bits .ensures) ok (planned o .plan-of .ensures .groups-are) (w .write-groups .ensures)
 
 pub answer-groups-spec : {M : Type 1} → statement M
 answer-groups-spec =

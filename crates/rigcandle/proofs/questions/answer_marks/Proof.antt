@@ -1,21 +1,24 @@
 -- The capture, the room, the readings, then the marks.
 use Prim.Native.Nat.{ℕ, _*_, _≤_}
 use mathlib.Core.Path.{_≡_, refl, sym, _∙_, ap, ap₂}
-use mathlib.Core.List.{List}
+use mathlib.Core.Bool.{not}
+use mathlib.Core.List.{List, [], _∷_}
 use native.Mathlib.Omega.{arith}
 use borrow.Author.Needs.{needs}
 use borrow.Author.Tests.{ltb-false}
+use lib.Dec.{eqb}
+use lib.ListN.{length}
 use Rattle.rules.specs.Rows.{rowBytes}
 use Rattle.rules.specs.File.{boardOf, cellsOf}
 use Rattle.rules.specs.Vectors.{totalOf}
-use Rattle.rules.specs.Refusals.{judge, boardChecks, marksChecks, mostCells}
+use Rattle.rules.specs.Refusals.{judge, once, short, boardChecks, marksChecks, mostCells}
 use Rattle.rules.specs.declared.Verdict.the-variants.{Accepted}
 use Rattle.rules.proofs.Shape.{laid, shaped, one-block}
-use Rattle.rules.proofs.Verdicts.{passed, stopped}
+use Rattle.rules.proofs.CheckLaws.{once-accepted}
 use Rattle.chains.proofs.Walks.{cells-fit}
 use Rattle.plan.proofs.PlanningLaws.{small-plan, total-is, board-accepted, whole-file}
 use Rattle.rows.proofs.GroupRows.{place-low}
-use Rattle.rigcandle.proofs.AnswerLaws.{row-marks, row-capture, marks-refused, once-off, room-is, capture-is}
+use Rattle.rigcandle.proofs.AnswerLaws.{marks-refused, first-decides, second-decides, check-by}
 use Rattle.rigcandle.proofs.AdmittedLaws.{vectors-low}
 use Rattle.rigcandle.proofs.CaptureMarks.{marks-are, captured, whole-capture, no-entries, readings-of, counts-low, marked-as}
 use Rattle.rigcandle.proofs.questions.answer_marks.Statement.{statement}
@@ -52,21 +55,25 @@ small c =
     let f = cells-fit _ (whole-file _ (accepted c)) in
     omega arith
 
--- the bytes that a capture has
-needed : (c : tie.After-once) → c .before .before .total .result * c .before .row-bytes .result ≡ totalOf (boardOf (file (sized c))) * rowBytes (cellsOf (file (sized c)))
-needed c =
+-- what the capture's check is, and the room's
+capture-is :
+    (c : tie.After-once) →
+    let f = file (sized c) in
+    c .once .result ≡ judge (once 14 (not (eqb (length (capture (sized c))) (totalOf (boardOf f) * rowBytes (cellsOf f)))) ∷ [])
+capture-is c =
     let s = sized c in
-    ap₂ _*_ (c .before .before .total .ensures ∙ total-is _ _ (start s .pre .1)) (c .before .row-bytes .ensures ∙ ap rowBytes (s .read-sizes .ensures .cells))
+    let vectors = c .before .before .total .ensures ∙ total-is _ _ (start s .pre .1) in
+    let bytes = c .before .row-bytes .ensures ∙ ap rowBytes (s .read-sizes .ensures .cells) in
+    check-by (λ n. once 14 (not (eqb (length (capture s)) n))) (c .once .ensures) (ap₂ _*_ vectors bytes)
 
--- what the room's check is
-verdict-is : (c : tie.After-once2) → c .once2 .result ≡ judge (marksChecks (file (sized (judged (whole c)))) (capture (sized (judged (whole c)))) (out (sized (judged (whole c)))))
-verdict-is c =
+room-is : (c : tie.After-once2) → let s = sized (judged (whole c)) in c .once2 .result ≡ judge (marksChecks (file s) (capture s) (out s))
+unfolding marksChecks
+room-is c =
     let w = whole c in
     let o = judged w in
     let s = sized o in
-    let capture-check = capture-is (capture s) _ _ _ (o .once .ensures) (needed o) in
-    let room = room-is (out s) _ _ _ (c .once2 .ensures) (s .read-sizes .ensures .nets) in
-    passed (row-marks (file s) (out s) (capture s)) refl (start s .pre .0) (passed (row-capture (file s) (out s) (capture s)) capture-check (w .enum-told .given .1) room)
+    let room = check-by (short (out s)) (c .once2 .ensures) (s .read-sizes .ensures .nets) in
+    second-decides _ (start s .pre .0) _ _ (capture-is o) (w .enum-told .given .1) room
 
 mul-once : tie.Need-mul-once
 mul-once c =
@@ -76,21 +83,14 @@ mul-once c =
     omega arith
 
 returns : tie.Need-returns
+unfolding marksChecks
 returns c =
     let o = c .before .before .before in
-    let s = sized o in
     let told = c .before .enum-told2 .given .1 in
-    let capture-check = capture-is (capture s) _ _ _ (o .once .ensures) (needed o) in
-    let v = passed (row-marks (file s) (out s) (capture s)) refl (start s .pre .0) (stopped (row-capture (file s) (out s) (capture s)) capture-check told) in
-    let r = marks-refused (file s) (out s) (capture s) _ _ v told in
-    (c .verdict-bits .ensures ∙ r .0, r .1)
+    marks-refused (c .verdict-bits .ensures) told _ _ _ (first-decides _ (start (sized o) .pre .0) _ _ (capture-is o) told)
 
 returns-2 : tie.Need-returns-2
-returns-2 c =
-    let o = c .before .before .before in
-    let s = sized (judged (whole o)) in
-    let r = marks-refused (file s) (out s) (capture s) _ _ (verdict-is o) (c .before .enum-told4 .given .1) in
-    (c .verdict-bits2 .ensures ∙ r .0, r .1)
+returns-2 c = marks-refused (c .verdict-bits2 .ensures) (c .before .enum-told4 .given .1) _ _ _ (room-is (c .before .before .before))
 
 -- the place where the room was judged, from where it was found, and from where the readings were made
 abbrev roomy : tie.After-enum-told3 → tie.After-once2
@@ -105,8 +105,9 @@ read-nets-requires c κs =
     let o = judged w in
     let s = sized o in
     let p = start s .pre in
-    let right = whole-capture _ _ (once-off _ _ _ (o .once .ensures) (w .enum-told .given .1)) in
-    (captured _ _ _ _ (p .0) (accepted s) (p .1) (s .read-sizes .ensures .cells) (right ∙ ap₂ _*_ (o .before .before .total .ensures) (o .before .row-bytes .ensures)), no-entries _ (small s))
+    let right = whole-capture _ _ (once-accepted _ _ (sym (o .once .ensures) ∙ w .enum-told .given .1)) in
+    let long = right ∙ ap₂ _*_ (o .before .before .total .ensures) (o .before .row-bytes .ensures) in
+    (captured _ _ _ (p .1) (s .read-sizes .ensures .cells) (p .0) long, no-entries _ (small s))
 
 judge-readings-requires : tie.Need-judge-readings-requires
 judge-readings-requires c κs =
@@ -115,8 +116,9 @@ judge-readings-requires c κs =
     let o = roomy told in
     let s = sized (judged (whole o)) in
     let sizes = s .read-sizes .ensures in
-    let room = ltb-false _ _ (once-off _ _ _ (o .once2 .ensures) (told .enum-told3 .given .1)) in
-    (readings-of _ _ _ _ _ _ (accepted s) (start s .pre .1) (sizes .cells) (no-entries _ (small s)) (n .read-nets .ensures), (record { cells-are = sizes .cells; nets-are = sizes .nets }, room))
+    let room = ltb-false _ _ (once-accepted _ _ (sym (o .once2 .ensures) ∙ told .enum-told3 .given .1)) in
+    let made = readings-of _ _ _ (start s .pre .1) (sizes .cells) (accepted s) (no-entries _ (small s)) (n .read-nets .ensures) in
+    (made, (record { cells-are = sizes .cells; nets-are = sizes .nets }, room))
 
 -- the place where the readings were made, from where they were judged
 abbrev read : tie.After-judge-readings → tie.After-read-nets
@@ -125,7 +127,7 @@ read c = c .before .before .before .before
 marks-bits-requires : tie.Need-marks-bits-requires
 marks-bits-requires c κs =
     let j = c .before .before in
-    counts-low _ _ _ (accepted (sized (judged (whole (roomy (found (read j))))))) (j .judge-readings .ensures .1)
+    counts-low _ (j .judge-readings .ensures .1) (accepted (sized (judged (whole (roomy (found (read j)))))))
 
 returns-3 : tie.Need-returns-3
 returns-3 c =
@@ -134,9 +136,9 @@ returns-3 c =
     let told = found n in
     let o = roomy told in
     let s = sized (judged (whole o)) in
-    let m = marks-are _ _ _ _ _ _ (start s .pre .1) (s .read-sizes .ensures .cells) (n .read-nets .ensures) in
-    let r = marked-as (file s) (capture s) (out s) _ _ _ (sym (verdict-is o) ∙ told .enum-told3 .given .1) m (j .judge-readings .ensures .0) (j .judge-readings .ensures .1) in
-    (c .marks-bits .ensures ∙ r .0, r .1)
+    let ok = sym (room-is o) ∙ told .enum-told3 .given .1 in
+    let m = marks-are _ _ _ (start s .pre .1) (s .read-sizes .ensures .cells) (n .read-nets .ensures) in
+    marked-as _ (j .judge-readings .ensures .1) _ _ (c .marks-bits .ensures) ok m (j .judge-readings .ensures .0)
 
 pub answer-marks-spec : {M : Type 1} → statement M
 answer-marks-spec =

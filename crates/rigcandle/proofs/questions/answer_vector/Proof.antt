@@ -1,20 +1,21 @@
 -- The number, the room, then the row.
 use Prim.Native.Nat.{ℕ, _≤_, _<_}
-use mathlib.Core.Path.{_≡_, refl, sym, _∙_, ap}
-use mathlib.Core.List.{List}
+use mathlib.Core.Path.{_≡_, sym, _∙_, ap}
+use mathlib.Core.List.{List, [], _∷_}
 use native.Mathlib.Omega.{arith}
 use borrow.Author.Needs.{needs}
 use borrow.Author.Tests.{ltb-false, leb-false}
+use lib.Dec.{leb}
 use Rattle.rules.specs.Rows.{rowBytes}
 use Rattle.rules.specs.File.{boardOf, cellsOf}
 use Rattle.rules.specs.Vectors.{totalOf}
-use Rattle.rules.specs.Refusals.{judge, vectorChecks, mostCells}
+use Rattle.rules.specs.Refusals.{judge, once, short, vectorChecks, mostCells}
 use Rattle.rules.proofs.VectorsDriven.{vector-group}
 use Rattle.rules.proofs.Shape.{laid, shaped, one-block}
-use Rattle.rules.proofs.Verdicts.{passed, stopped}
+use Rattle.rules.proofs.CheckLaws.{once-accepted}
 use Rattle.chains.proofs.Walks.{cells-fit}
 use Rattle.plan.proofs.PlanningLaws.{small-plan, total-is, groups-low}
-use Rattle.rigcandle.proofs.AnswerLaws.{row-vector, row-number, vector-refused, vector-accepted, once-off, room-is, number-is}
+use Rattle.rigcandle.proofs.AnswerLaws.{vector-refused, vector-accepted, first-decides, second-decides, check-by}
 use Rattle.rigcandle.proofs.questions.answer_vector.Statement.{statement}
 use Rattle.rigcandle.proofs.questions.answer_vector.Tie as tie
 
@@ -57,41 +58,37 @@ total-of c = c .before .total .ensures ∙ total-is _ _ (planned c .plan-of .ens
 below : (c : tie.After-enum-told) → number (planned (judged c)) < totalOf (boardOf (file (planned (judged c))))
 below c =
     let o = judged c in
-    rw (← total-of o) (leb-false _ _ (once-off _ _ _ (o .once .ensures) (c .enum-told .given .1)))
+    rw (← total-of o) (leb-false _ _ (once-accepted _ _ (sym (o .once .ensures) ∙ c .enum-told .given .1)))
 
--- what the room's check is
-verdict-is : (c : tie.After-once2) → c .once2 .result ≡ judge (vectorChecks (file (planned (judged (known c)))) (number (planned (judged (known c)))) (out (planned (judged (known c)))))
-verdict-is c =
+-- what the number's check is, and the room's
+number-is : (c : tie.After-once) → c .once .result ≡ judge (once 13 (leb (totalOf (boardOf (file (planned c)))) (number (planned c))) ∷ [])
+number-is c = check-by (λ t. once 13 (leb t (number (planned c)))) (c .once .ensures) (total-of c)
+
+room-is : (c : tie.After-once2) → let p = planned (judged (known c)) in c .once2 .result ≡ judge (vectorChecks (file p) (number p) (out p))
+unfolding vectorChecks
+room-is c =
     let k = known c in
     let o = judged k in
     let p = planned o in
-    let number-check = number-is (number p) _ _ _ (o .once .ensures) (total-of o) in
-    let room = room-is (out p) _ _ _ (c .once2 .ensures) (c .before .row-bytes .ensures ∙ ap rowBytes (cells-are p)) in
-    passed (row-vector (file p) (out p) (number p)) refl (start p .pre .counted) (passed (row-number (file p) (out p) (number p)) number-check (k .enum-told .given .1) room)
+    let room = check-by (short (out p)) (c .once2 .ensures) (c .before .row-bytes .ensures ∙ ap rowBytes (cells-are p)) in
+    second-decides _ (start p .pre .counted) _ _ (number-is o) (k .enum-told .given .1) room
 
 returns : tie.Need-returns
+unfolding vectorChecks
 returns c =
     let o = c .before .before .before in
-    let p = planned o in
     let told = c .before .enum-told2 .given .1 in
-    let number-check = number-is (number p) _ _ _ (o .once .ensures) (total-of o) in
-    let v = passed (row-vector (file p) (out p) (number p)) refl (start p .pre .counted) (stopped (row-number (file p) (out p) (number p)) number-check told) in
-    let r = vector-refused (file p) (out p) (number p) _ _ v told in
-    (c .verdict-bits .ensures ∙ r .0, r .1)
+    vector-refused (c .verdict-bits .ensures) told _ _ _ (first-decides _ (start (planned o) .pre .counted) _ _ (number-is o) told)
 
 returns-2 : tie.Need-returns-2
-returns-2 c =
-    let o = c .before .before .before in
-    let p = planned (judged (known o)) in
-    let r = vector-refused (file p) (out p) (number p) _ _ (verdict-is o) (c .before .enum-told4 .given .1) in
-    (c .verdict-bits2 .ensures ∙ r .0, r .1)
+returns-2 c = vector-refused (c .verdict-bits2 .ensures) (c .before .enum-told4 .given .1) _ _ _ (room-is (c .before .before .before))
 
 write-vector-requires : tie.Need-write-vector-requires
 write-vector-requires c κs =
     let told = c .before .before in
     let o = told .before .before in
     let p = planned (judged (known o)) in
-    let room = ltb-false _ _ (once-off _ _ _ (o .once2 .ensures) (told .enum-told3 .given .1)) in
+    let room = ltb-false _ _ (once-accepted _ _ (sym (o .once2 .ensures) ∙ told .enum-told3 .given .1)) in
     record {
       ready = start p .pre .ready;
       cells-are = cells-are p;
@@ -116,11 +113,8 @@ group-bits-requires c κs =
 returns-3 : tie.Need-returns-3
 returns-3 c =
     let w = c .before .before .before in
-    let o = roomy w in
-    let p = planned (judged (known o)) in
-    let told = w .before .before .before in
-    let r = vector-accepted (file p) (out p) (number p) _ _ (sym (verdict-is o) ∙ told .enum-told3 .given .1) (w .write-vector .ensures .0) (w .write-vector .ensures .1 .0) in
-    (c .group-bits .ensures ∙ r .0, r .1)
+    let ok = sym (room-is (roomy w)) ∙ w .before .before .before .enum-told3 .given .1 in
+    vector-accepted _ _ _ (c .group-bits .ensures) ok (w .write-vector .ensures .0) (w .write-vector .ensures .1 .0)
 
 pub answer-vector-spec : {M : Type 1} → statement M
 answer-vector-spec =

@@ -1,5 +1,7 @@
 -- The plan has all three numbers.
+use Prim.Native.Nat.{ℕ}
 use mathlib.Core.Path.{_≡_, refl, sym, _∙_}
+use mathlib.Core.List.{List}
 use borrow.Author.Needs.{needs}
 use Rattle.rules.specs.File.{boardOf}
 use Rattle.rules.specs.Refusals.{judge, countChecks}
@@ -11,17 +13,28 @@ use Rattle.rigcandle.proofs.AdmittedLaws.{vectors-low, groups-few, wide
 use Rattle.rigcandle.proofs.questions.ask_count.Statement.{statement}
 use Rattle.rigcandle.proofs.questions.ask_count.Tie as tie
 
-abbrev start : tie.After-make-plan → tie.Start
-start c = c .before .before
+abbrev file : tie.After-known-told → List ℕ
+file c = c .before .before .before .before .before .args .file .now
 
 -- the board is admitted, and the plan its own
-made : (c : tie.After-known-told) → (judge (countChecks (start (c .before .before .before) .args .file .now)) ≡ Accepted) × PlanOf (boardOf (start (c .before .before .before) .args .file .now)) (c .before .answer .given .0 .0)
+made : (c : tie.After-known-told) → (judge (countChecks (file c)) ≡ Accepted) × PlanOf (boardOf (file c)) (c .before .answer .given .0 .0)
 made c = c .before .before .before .make-plan .ensures .made _ (c .before .answer .given .1)
+
+count-bits-requires : tie.Need-count-bits-requires
+count-bits-requires c κs =
+    let m = made (c .before) in
+    let ok = board-accepted _ (m .0) in
+    (groups-few _ _ ok (m .1), wide-few _ _ ok (m .1), vectors-low _ _ _ (m .0) (m .1) (c .total .ensures))
 
 returns : tie.Need-returns
 returns c =
     let m = made (c .before .before) in
-    c .count-bits .ensures ∙ count-accepted _ _ _ _ (m .0) (m .1 .groups-are) (m .1 .wide-are) (c .before .total .ensures ∙ total-is _ _ (m .1))
+    count-accepted _ (c .count-bits .ensures) (m .0) (m .1 .groups-are) (m .1 .wide-are) (c .before .total .ensures ∙ total-is _ _ (m .1))
+
+returns-2 : tie.Need-returns-2
+returns-2 c =
+    let a = c .before .before in
+    count-refused (c .verdict-bits .ensures) refl _ (sym (a .before .before .make-plan .ensures .refused _ (a .answer2 .given .1)))
 
 pub ask-count-spec : {M : Type 1} → statement M
 ask-count-spec =
@@ -30,8 +43,8 @@ ask-count-spec =
     (λ c κs. search needs)
     (λ c. search needs)
     (λ c κs. let m = made c in small-plan _ (board-accepted _ (m .0)) _ (m .1))
-    (λ c κs. let m = made (c .before) in let ok = board-accepted _ (m .0) in (groups-few _ _ ok (m .1), wide-few _ _ ok (m .1), vectors-low _ _ _ (m .0) (m .1) (c .total .ensures)))
+    count-bits-requires
     (λ c. search needs)
     (λ c κs. search needs)
     returns
-    (λ c. let a = c .before .before in c .verdict-bits .ensures ∙ count-refused _ _ _ (sym (a .before .before .make-plan .ensures .refused _ (a .answer2 .given .1))) refl))
+    returns-2)

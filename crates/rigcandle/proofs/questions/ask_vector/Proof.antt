@@ -1,27 +1,18 @@
 -- Refusals 1 to 12, then the answer.
 use mathlib.Core.Path.{sym, _∙_}
 use borrow.Author.Needs.{needs}
-use Rattle.rules.proofs.Verdicts.{stopped}
-use Rattle.rigcandle.proofs.AnswerLaws.{row-vector, vector-refused}
+use Rattle.rules.specs.Refusals.{countChecks, vectorChecks}
+use Rattle.rules.proofs.Verdicts.{stopped, then-append}
+use Rattle.rigcandle.proofs.AnswerLaws.{vector-refused}
 use Rattle.rigcandle.proofs.questions.ask_vector.Statement.{statement}
 use Rattle.rigcandle.proofs.questions.ask_vector.Tie as tie
 
-abbrev start : tie.After-admit → tie.Start
-start c = c .before .before .before .before
-
 returns : tie.Need-returns
+unfolding vectorChecks
 returns c =
-    let v = c .before .before .before in
-    let a = start v .args in
+    let v = c .before .before .before .admit .ensures .0 in
     let told = c .before .enum-told2 .given .1 in
-    let r = vector-refused (a .file .now) (a .out .now) (a .number) _ _ (stopped (row-vector (a .file .now) (a .out .now) (a .number)) (v .admit .ensures .0) told) told in
-    (c .verdict-bits .ensures ∙ r .0, r .1)
-
-answer-vector-requires : tie.Need-answer-vector-requires
-answer-vector-requires c κs =
-    let told = c .before .before in
-    let v = told .before .before .admit .ensures in
-    v .1 (sym (v .0) ∙ told .enum-told .given .1)
+    vector-refused (c .verdict-bits .ensures) told _ _ _ (stopped (then-append (countChecks _) _) v told)
 
 pub ask-vector-spec : {M : Type 1} → statement M
 ask-vector-spec =
@@ -32,6 +23,6 @@ ask-vector-spec =
     (λ c. search needs)
     (λ c κs. search needs)
     returns
-    answer-vector-requires
+    (λ c κs. let t = c .before .before in let v = t .before .before .admit .ensures in v .1 (sym (v .0) ∙ t .enum-told .given .1))
     (λ c. search needs)
     (λ c. search needs))
