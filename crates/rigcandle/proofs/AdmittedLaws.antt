@@ -5,15 +5,19 @@ use mathlib.Core.List.{List}
 use native.Mathlib.Omega.{arith}
 use borrow.Author.Tests.{ltb-false}
 use lib.ListN.{length}
-use Rattle.rules.specs.File.{boardOf, mostNumber}
-use Rattle.rules.specs.Refusals.{judge, boardChecks, countChecks, mostVectors}
+use Rattle.rules.specs.File.{boardOf, cellsOf, mostNumber}
+use Rattle.rules.specs.Refusals.{judge, boardChecks, countChecks, mostCells, mostVectors}
 use Rattle.rules.specs.Vectors.{stepsOf, totalOf}
 use Rattle.rules.specs.declared.Verdict.the-variants.{Accepted}
 use Rattle.rules.proofs.Verdicts.{all-pass, append-pass}
+use Rattle.chains.proofs.Walks.{cells-fit}
 use Rattle.plan.specs.declared.steps.Plan.{Plan}
 use Rattle.plan.specs.Plans.{basesFor}
 use Rattle.plan.specs.Planning.{PlanOf}
-use Rattle.plan.proofs.PlanningLaws.{small-plan, groups-low, total-is}
+use Rattle.plan.proofs.PlanningLaws.{small-plan, groups-low, total-is, whole-file}
+
+pub cells-few : (file : List ℕ) {cells : ℕ} → judge (boardChecks file) ≡ Accepted → cells ≡ cellsOf file → cells ≤ mostCells
+cells-few file ok e = let f = cells-fit file (whole-file file ok) in omega arith
 
 pub total-low : (file : List ℕ) → judge (countChecks file) ≡ Accepted → totalOf (boardOf file) ≤ mostVectors
 unfolding countChecks

@@ -23,21 +23,13 @@ use Rattle.rules.proofs.RecordLaws.{SaysAt, record-says}
 use Rattle.rules.proofs.Shape.{whole-records}
 
 -- what a cell drives, by its columns
-driver-kind : (c : ℕ) (cell : Cell) → isDriver (driverIn c cell) ≡ eqb (kindOf cell) 3
-unfolding driverIn isDriver kindOf
-driver-kind c Internal = refl
-driver-kind c (Input n) = refl
-driver-kind c (Control on) = refl
-driver-kind c (ThreeState k n) = refl
-driver-kind c (TwoState n) = refl
-
-driver-control : (c : ℕ) (cell : Cell) → controlIn (driverIn c cell) ≡ controlOf cell
-unfolding driverIn controlIn controlOf
-driver-control c Internal = refl
-driver-control c (Input n) = refl
-driver-control c (Control on) = refl
-driver-control c (ThreeState k n) = refl
-driver-control c (TwoState n) = refl
+by-columns : (c : ℕ) (cell : Cell) → (isDriver (driverIn c cell) ≡ eqb (kindOf cell) 3) × (controlIn (driverIn c cell) ≡ controlOf cell)
+unfolding driverIn isDriver controlIn kindOf controlOf
+by-columns c Internal = (refl, refl)
+by-columns c (Input n) = (refl, refl)
+by-columns c (Control on) = (refl, refl)
+by-columns c (ThreeState k n) = (refl, refl)
+by-columns c (TwoState n) = (refl, refl)
 
 never : (k : Position) (n : Net) → Nothing ≡ Of k n → ⊥
 never k n e = let z : _≡_ {A = ℕ} 0 1 = cc in omega arith
@@ -80,7 +72,7 @@ module _ (b : Board) (c : ℕ) where
   -- by kinds
   three : controlled b c ≡ true → kindOf (b .cell c) ≡ 3
   unfolding controlled driverAt
-  three h = eqb-true _ _ (sym (driver-kind c (b .cell c)) ∙ h)
+  three h = eqb-true _ _ (sym (by-columns c (b .cell c) .0) ∙ h)
 
   four : alwaysOn b c ≡ true → kindOf (b .cell c) ≡ 4
   unfolding alwaysOn
@@ -88,7 +80,7 @@ module _ (b : Board) (c : ℕ) where
 
   named : controlFor b c ≡ controlOf (b .cell c)
   unfolding controlFor driverAt
-  named = driver-control c (b .cell c)
+  named = by-columns c (b .cell c) .1
 
   -- what counts as a control cell is of kind 2. Request [3] breaks this: an open-drain output is one too
   pub control-kind : isControl b c ≡ true → kindOf (b .cell c) ≡ 2

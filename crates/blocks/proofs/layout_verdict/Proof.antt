@@ -45,19 +45,13 @@ loop-again c =
     let d = c .before .before .before in
     search-next (d .before .loop .inv) (d .loop-test .taken) (sym (c .before .block-wrong .ensures) ∙ c .if1 .left)
 
-returns-2 : tie.Need-returns-2 Inv-loop μ-loop
-unfolding blocksIn
-returns-2 c = sym (ended 5 (c .before .loop .inv) (c .loop-test .left))
-
 pub layout-verdict-spec : {M : Type 1} → statement M
+unfolding blocksIn
 layout-verdict-spec =
     tie.close
     (tie.spec Inv-loop μ-loop
-    (λ c. search-start _ _)
-    block-wrong-requires
-    refuse-requires
-    returns
+    (λ c. search-start _ _) block-wrong-requires refuse-requires returns
     (λ c. let t = c .before .before .before .loop-test .taken in omega arith)
     (λ c. let t = c .before .before .before .loop-test .taken in omega arith)
     loop-again
-    returns-2)
+    (λ c. sym (ended 5 (c .before .loop .inv) (c .loop-test .left))))

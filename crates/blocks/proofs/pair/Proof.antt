@@ -7,24 +7,18 @@ use Rattle.rules.specs.File.{byteAt, numberAt}
 use Rattle.blocks.proofs.pair.Statement.{statement}
 use Rattle.blocks.proofs.pair.Tie as tie
 
-cast-result : tie.Need-cast-result
-cast-result c = omega (arith, c .shared-slice-known .given (c .before .args .at))
-
-cast-result-2 : tie.Need-cast-result-2
-cast-result-2 c = omega (arith, c .shared-slice-known2 .given (c .before .before .args .at + 1))
-
-mul-result : tie.Need-mul-result
-mul-result c = omega (arith, c .shared-slice-known2 .given (c .before .before .args .at + 1))
-
 add-result-2 : tie.Need-add-result-2
 add-result-2 c =
     omega (arith, c .shared-slice-known2 .given (c .before .before .args .at), c .shared-slice-known2 .given (c .before .before .args .at + 1))
 
-returns : tie.Need-returns
-unfolding numberAt byteAt
-returns c = refl
-
 pub pair-spec : {M : Type 1} → statement M
+unfolding numberAt byteAt
 pair-spec =
     tie.close
-    (tie.spec (λ c. search needs) cast-result (λ c. search needs) (λ c. search needs) cast-result-2 mul-result add-result-2 returns)
+    (tie.spec
+    (λ c. search needs)
+    (λ c. omega (arith, c .shared-slice-known .given (c .before .args .at)))
+    (λ c. search needs) (λ c. search needs)
+    (λ c. omega (arith, c .shared-slice-known2 .given (c .before .before .args .at + 1)))
+    (λ c. omega (arith, c .shared-slice-known2 .given (c .before .before .args .at + 1)))
+    add-result-2 (λ c. refl))

@@ -46,15 +46,11 @@ at8 : (c : tie.Joined4) → c .if4 .if5 ≡ to8 (c .before .before .before .befo
 at8 c =
     ⊎-elim (λ w. and-next (at7 (c .before)) (w .0 .taken) (w .2)) (λ w. and-stop _ (at7 (c .before)) (w .0 .left) (w .1)) (c .if4 .came)
 
-returns : tie.Need-returns
-unfolding signatureRight byteAt
-returns c = and-next (at8 (c .before .before)) (c .before .if5 .taken) refl
-
-returns-2 : tie.Need-returns-2
-unfolding signatureRight byteAt
-returns-2 c = and-stop _ (at8 (c .before)) (c .if5 .left) refl
-
 pub signature-right-spec : {M : Type 1} → statement M
+unfolding signatureRight byteAt
 signature-right-spec =
     tie.close
-    (tie.spec (λ c. search needs) (λ c. search needs) (λ c. search needs) (λ c. search needs) (λ c. search needs) (λ c. search needs) returns returns-2)
+    (tie.spec
+    (λ c. search needs) (λ c. search needs) (λ c. search needs) (λ c. search needs) (λ c. search needs) (λ c. search needs)
+    (λ c. and-next (at8 (c .before .before)) (c .before .if5 .taken) refl)
+    (λ c. and-stop _ (at8 (c .before)) (c .if5 .left) refl))

@@ -15,13 +15,6 @@ Inv-loop bytes a₀ b₀ i₀ a b i = (i ≤ length bytes) × (sumsFrom (record 
 abbrev μ-loop : tie.MeasureT-loop
 μ-loop bytes a₀ b₀ i₀ a b i = length bytes - i
 
-loop-holds : tie.Need-loop-holds Inv-loop μ-loop
-unfolding sumsOf
-loop-holds c = (omega arith, refl)
-
-cast-wrapping-add-u16 : tie.Need-cast-wrapping-add-u16 Inv-loop μ-loop
-cast-wrapping-add-u16 c = omega (arith, c .shared-slice-known2 .given (c .before .before .loop .i))
-
 loop-again : tie.Need-loop-again Inv-loop μ-loop
 loop-again c =
     let t = c .before .before .before in (
@@ -29,11 +22,12 @@ loop-again c =
       sums-next _ _ _ _ (t .loop-test .taken) (c .before .wrapping-add-u16 .ensures) (c .wrapping-add-u162 .ensures) ∙ t .before .loop .inv .1,
     )
 
-returns : tie.Need-returns Inv-loop μ-loop
-returns c =
-    sym (sums-end _ _ (c .before .loop .i) (omega arith)) ∙ c .before .loop .inv .1
-
 pub sums-spec : {M : Type 1} → statement M
+unfolding sumsOf
 sums-spec =
     tie.close
-    (tie.spec Inv-loop μ-loop loop-holds (λ c. omega arith) cast-wrapping-add-u16 (λ c κs. search needs) (λ c κs. search needs) (λ c. omega arith) (λ c. omega arith) loop-again returns)
+    (tie.spec Inv-loop μ-loop
+    (λ c. (omega arith, refl)) (λ c. omega arith)
+    (λ c. omega (arith, c .shared-slice-known2 .given (c .before .before .loop .i)))
+    (λ c κs. search needs) (λ c κs. search needs) (λ c. omega arith) (λ c. omega arith) loop-again
+    (λ c. sym (sums-end _ _ (c .before .loop .i) (omega arith)) ∙ c .before .loop .inv .1))

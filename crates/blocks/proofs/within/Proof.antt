@@ -6,13 +6,8 @@ use Rattle.rules.specs.Refusals.{within}
 use Rattle.blocks.proofs.within.Statement.{statement}
 use Rattle.blocks.proofs.within.Tie as tie
 
-returns : tie.Need-returns
-unfolding within
-returns c = and-next refl (le-leb _ _ (c .if1 .taken)) refl
-
-returns-2 : tie.Need-returns-2
-unfolding within
-returns-2 c = and-stop _ refl (lt-leb _ _ (c .if1 .left)) refl
-
 pub within-spec : {M : Type 1} → statement M
-within-spec = tie.close (tie.spec returns returns-2)
+unfolding within
+within-spec =
+    tie.close
+    (tie.spec (λ c. and-next refl (le-leb _ _ (c .if1 .taken)) refl) (λ c. and-stop _ refl (lt-leb _ _ (c .if1 .left)) refl))

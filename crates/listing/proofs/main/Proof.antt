@@ -11,25 +11,10 @@ part-list-end c =
     let f = d .before .before .before .read-input .ensures _ (d .input .given .1) in
     omega (arith, f)
 
-list-requires : tie.Need-list-requires
-list-requires c κs = blank
-
 pub main-spec : {M : Type 1} → statement M
 main-spec =
     tie.close
     (tie.spec
-    (λ c. search needs)
-    (λ c κs. search needs)
-    (λ c. search needs)
-    (λ c. search needs)
-    (λ c. search needs)
-    (λ c κs. search needs)
-    (λ c. tt)
-    (λ c. search needs)
-    (λ c. search needs)
-    part-list-end
-    list-requires
-    (λ c. search needs)
-    (λ c κs. search needs)
-    (λ c. tt)
-    (λ c. tt))
+    (λ c. search needs) (λ c κs. search needs) (λ c. search needs) (λ c. search needs) (λ c. search needs) (λ c κs. search needs)
+    (λ c. tt) (λ c. search needs) (λ c. search needs) part-list-end (λ c κs. blank) (λ c. search needs) (λ c κs. search needs)
+    (λ c. tt) (λ c. tt))

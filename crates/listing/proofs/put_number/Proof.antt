@@ -11,19 +11,13 @@ use Rattle.listing.proofs.put_number.Tie as tie
 few : (d : tie.After-decimal) → d .decimal .result ≤ 20
 few d = few-digits _ _ (d .before .before .before .fits .n .fits) (d .decimal .ensures .1 .0)
 
-put-requires : tie.Need-put-requires
-put-requires c κs = let k = few (c .before .before) in simp length-take (omega arith)
-
-slice-write-line : tie.Need-slice-write-line
-slice-write-line c = let k = few (c .before .before .before .before .before) in omega arith
-
-add-result : tie.Need-add-result
-add-result c = let k = few (c .before .before .before .before .before) in omega arith
-
-returns : tie.Need-returns
-returns c = let k = few (c .before .before .before .before .before) in omega arith
-
 pub put-number-spec : {M : Type 1} → statement M
 put-number-spec =
     tie.close
-    (tie.spec (λ c κs. search needs) (λ c. search needs) (λ c. search needs) put-requires slice-write-line add-result (λ c. search needs) returns)
+    (tie.spec
+    (λ c κs. search needs) (λ c. search needs) (λ c. search needs)
+    (λ c κs. let k = few (c .before .before) in simp length-take (omega arith))
+    (λ c. let k = few (c .before .before .before .before .before) in omega arith)
+    (λ c. let k = few (c .before .before .before .before .before) in omega arith)
+    (λ c. search needs)
+    (λ c. let k = few (c .before .before .before .before .before) in omega arith))

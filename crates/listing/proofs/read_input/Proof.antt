@@ -20,24 +20,20 @@ at-loop d = d .before .before .before .before .before .before .before
 room : (d : tie.After-read Inv-loop μ-loop) → at-loop d .loop .done + d .read .given .0 .0 ≤ length (at-loop d .loop .file)
 room d = d .before .before .before .before .read-from .ensures _ (d .read .given .1)
 
-returns : tie.Need-returns Inv-loop μ-loop
-returns c = λ n e. let z : _≡_ {A = ℕ} 0 1 = cc in omega arith
-
 returns-2 : tie.Need-returns-2 Inv-loop μ-loop
 returns-2 c = λ n e.
     let same : at-loop (c .before .before) .loop .done ≡ n = cc in
     omega arith
-
-returns-3 : tie.Need-returns-3 Inv-loop μ-loop
-returns-3 c = λ n e. let same : c .before .loop .done ≡ n = cc in omega arith
 
 pub read-input-spec : {M : Type 1} → statement M
 read-input-spec =
     tie.close
     (tie.spec Inv-loop μ-loop
     (λ c. search needs) (λ c κs. search needs) (λ c. search needs) (λ c. search needs) (λ c. search needs)
-    returns (λ c. search needs) returns-2
+    (λ c n e. let z : _≡_ {A = ℕ} 0 1 = cc in omega arith)
+    (λ c. search needs) returns-2
     (λ c. let f = room (c .before .before) in omega arith)
     (λ c. let f = room (c .before .before) in omega arith)
     (λ c. let f = room (c .before .before) in (omega arith, omega arith))
-    (λ c. search needs) returns-3)
+    (λ c. search needs)
+    (λ c n e. let same : c .before .loop .done ≡ n = cc in omega arith))

@@ -19,21 +19,12 @@ write-vector-requires c κs =
     let p = s .pre in
     record { ready = p .0; cells-are = p .1 .0; planned = p .1 .1 .0; below = p .1 .1 .1; long = row-short _ (few s) }
 
-row-bytes-requires : tie.Need-row-bytes-requires
-row-bytes-requires c κs = let l = few (start (c .before)) in omega arith
-
 -- the row's bytes are within its most
 short : (d : tie.After-row-bytes) → d .row-bytes .result ≤ mostBytes
 short d =
     let s = row-short _ (few (start (d .before .before))) in
     let e = d .row-bytes .ensures in
     omega arith
-
-part-say-row-end : tie.Need-part-say-row-end
-part-say-row-end c = let s = short (c .before) in omega arith
-
-say-row-requires : tie.Need-say-row-requires
-say-row-requires c κs = let s = short (c .before .before) in omega arith
 
 returns : tie.Need-returns
 returns c = let d = c .before .before .before in d .before .before .write-vector .ensures .1 .1
@@ -42,11 +33,9 @@ pub say-vector-spec : {M : Type 1} → statement M
 say-vector-spec =
     tie.close
     (tie.spec
-    (λ c. search needs)
-    write-vector-requires
-    row-bytes-requires
-    (λ c. search needs)
-    (λ c. search needs)
-    part-say-row-end
-    say-row-requires
+    (λ c. search needs) write-vector-requires
+    (λ c κs. let l = few (start (c .before)) in omega arith)
+    (λ c. search needs) (λ c. search needs)
+    (λ c. let s = short (c .before) in omega arith)
+    (λ c κs. let s = short (c .before .before) in omega arith)
     returns)

@@ -20,9 +20,6 @@ Inv-loop nets wide j words₀ w₀ words w =
 abbrev μ-loop : tie.MeasureT-loop
 μ-loop nets wide j words₀ w₀ words w = nets - 64 * w
 
-loop-holds : tie.Need-loop-holds Inv-loop μ-loop
-loop-holds c = (refl, member-zeros netWords, omega arith, written-none _ _)
-
 loop-again : tie.Need-loop-again Inv-loop μ-loop
 unfolding upTo
 loop-again c =
@@ -48,10 +45,8 @@ returns c =
 pub pattern-spec : {M : Type 1} → statement M
 pattern-spec =
     tie.close
-    (tie.spec
-    Inv-loop
-    μ-loop
-    loop-holds
+    (tie.spec Inv-loop μ-loop
+    (λ c. (refl, member-zeros netWords, omega arith, written-none _ _))
     (λ c. let b = c .loop .inv .2 in let n = c .before .pre .2 in omega arith)
     (λ c κs. let p = c .before .before .pre in let n = p .2 in (p .0, p .1, omega (arith, c .loop-test .taken)))
     (λ c κs. let n = c .before .before .before .pre .2 in let t = c .before .loop-test .taken in (omega arith, t))
@@ -59,5 +54,4 @@ pattern-spec =
     (λ c. let n = c .before .before .before .before .pre .2 in omega (arith, c .before .before .loop-test .taken))
     (λ c. let n = c .before .before .before .before .pre .2 in omega (arith, c .before .before .loop-test .taken))
     (λ c. omega (arith, c .before .before .loop-test .taken))
-    loop-again
-    returns)
+    loop-again returns)

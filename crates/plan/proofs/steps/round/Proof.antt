@@ -16,9 +16,6 @@ Inv-loop plan old₀ n₀ j₀ old n j =
 abbrev μ-loop : tie.MeasureT-loop
 μ-loop plan old₀ n₀ j₀ old n j = plan .wide - j
 
-loop-holds : tie.Need-loop-holds Inv-loop μ-loop
-loop-holds c = (omega arith, sym (full-zero _), c .base-values .ensures)
-
 add-base-values : tie.Need-add-base-values Inv-loop μ-loop
 add-base-values c = let s = c .before .before .before .before .pre in let n = s .narrow in omega (arith, c .if1 .taken)
 
@@ -37,9 +34,6 @@ small c = at-loop c .before .before .pre
 
 told : (c : tie.After-inserted-between Inv-loop μ-loop) → c .inserted-between .result ≡ fullAfter (plan c) (at-loop c .loop .j)
 told c = c .inserted-between .ensures ∙ between-is _ (small c) _ _ _ (at-loop c .loop .inv .2) (c .before .base-values2 .ensures)
-
-add-n : tie.Need-add-n Inv-loop μ-loop
-add-n c = let e = told c in omega (arith, full-low _ (small c) (at-loop c .loop .j))
 
 add-n-2 : tie.Need-add-n-2 Inv-loop μ-loop
 add-n-2 c =
@@ -66,17 +60,14 @@ returns c =
 pub round-spec : {M : Type 1} → statement M
 round-spec =
     tie.close
-    (tie.spec
-    Inv-loop
-    μ-loop
+    (tie.spec Inv-loop μ-loop
     (λ c κs. c .pre)
-    loop-holds
+    (λ c. (omega arith, sym (full-zero _), c .base-values .ensures))
     add-base-values
     (λ c κs. c .before .before .before .before .pre)
     inserted-between-requires
-    add-n
+    (λ c. let e = told c in omega (arith, full-low _ (small c) (at-loop c .loop .j)))
     add-n-2
     (λ c. let n = small c .narrow in omega (arith, c .before .before .if1 .taken))
     (λ c. omega (arith, c .before .before .if1 .taken))
-    loop-again
-    returns)
+    loop-again returns)

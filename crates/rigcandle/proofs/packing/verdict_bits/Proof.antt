@@ -6,15 +6,11 @@ use Rattle.rules.specs.Refusals.{numberOf, placeOf, secondOf}
 use Rattle.rigcandle.proofs.packing.verdict_bits.Statement.{statement}
 use Rattle.rigcandle.proofs.packing.verdict_bits.Tie as tie
 
-returns : tie.Need-returns
-unfolding packed pack
-returns c = rw (c .enum-told .given .1)
-
-returns-2 : tie.Need-returns-2
-unfolding packed numberOf placeOf secondOf
-returns-2 c = c .refusal-bits .ensures ∙ rw (c .before .before .verdict .given .1)
-
 pub verdict-bits-spec : {M : Type 1} → statement M
+unfolding packed pack numberOf placeOf secondOf
 verdict-bits-spec =
     tie.close
-    (tie.spec (λ c. search needs) (λ c. search needs) (λ c κs. search needs) returns returns-2)
+    (tie.spec
+    (λ c. search needs) (λ c. search needs) (λ c κs. search needs)
+    (λ c. rw (c .enum-told .given .1))
+    (λ c. c .refusal-bits .ensures ∙ rw (c .before .before .verdict .given .1)))

@@ -10,10 +10,9 @@ use Rattle.rules.specs.File.{cellsOf}
 use Rattle.rules.specs.Refusals.{judge, short, groupsChecks, mostCells}
 use Rattle.rules.proofs.Shape.{laid, shaped, one-block}
 use Rattle.rules.proofs.CheckLaws.{once-accepted}
-use Rattle.chains.proofs.Walks.{cells-fit}
 use Rattle.rows.proofs.GroupRows.{place-low}
 use Rattle.rigcandle.proofs.AnswerLaws.{groups-refused, groups-accepted, rest-decides, check-by}
-use Rattle.rigcandle.proofs.AdmittedLaws.{groups-few}
+use Rattle.rigcandle.proofs.AdmittedLaws.{cells-few, groups-few}
 use Rattle.rigcandle.proofs.questions.answer_groups.Statement.{statement}
 use Rattle.rigcandle.proofs.questions.answer_groups.Tie as tie
 
@@ -35,10 +34,7 @@ cells-are : (c : tie.After-plan-of) → c .before .before .read-sizes .result .c
 cells-are c = c .before .before .read-sizes .ensures .cells
 
 small : (c : tie.After-plan-of) → c .before .before .read-sizes .result .cells ≤ mostCells
-small c =
-    let e = cells-are c in
-    let f = cells-fit _ (start c .pre .ready .by-control .checked) in
-    omega arith
+small c = cells-few _ (start c .pre .ready .accepted) (cells-are c)
 
 -- what the room's check is
 judged : (c : tie.After-once) → c .once .result ≡ judge (groupsChecks (file (planned c)) (out (planned c)))

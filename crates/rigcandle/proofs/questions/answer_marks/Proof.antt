@@ -15,11 +15,10 @@ use Rattle.rules.specs.Refusals.{judge, once, short, boardChecks, marksChecks, 
 use Rattle.rules.specs.declared.Verdict.the-variants.{Accepted}
 use Rattle.rules.proofs.Shape.{laid, shaped, one-block}
 use Rattle.rules.proofs.CheckLaws.{once-accepted}
-use Rattle.chains.proofs.Walks.{cells-fit}
 use Rattle.plan.proofs.PlanningLaws.{small-plan, total-is, board-accepted, whole-file}
 use Rattle.rows.proofs.GroupRows.{place-low}
 use Rattle.rigcandle.proofs.AnswerLaws.{marks-refused, first-decides, second-decides, check-by}
-use Rattle.rigcandle.proofs.AdmittedLaws.{vectors-low}
+use Rattle.rigcandle.proofs.AdmittedLaws.{cells-few, vectors-low}
 use Rattle.rigcandle.proofs.CaptureMarks.{marks-are, captured, whole-capture, no-entries, readings-of, counts-low, marked-as}
 use Rattle.rigcandle.proofs.questions.answer_marks.Statement.{statement}
 use Rattle.rigcandle.proofs.questions.answer_marks.Tie as tie
@@ -50,10 +49,7 @@ accepted : (c : tie.After-read-sizes) → judge (boardChecks (file c)) ≡ Accep
 accepted c = board-accepted _ (start c .pre .0)
 
 small : (c : tie.After-read-sizes) → c .read-sizes .result .cells ≤ mostCells
-small c =
-    let e = c .read-sizes .ensures .cells in
-    let f = cells-fit _ (whole-file _ (accepted c)) in
-    omega arith
+small c = cells-few _ (accepted c) (c .read-sizes .ensures .cells)
 
 -- what the capture's check is, and the room's
 capture-is :

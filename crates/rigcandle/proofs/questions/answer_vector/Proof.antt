@@ -13,9 +13,9 @@ use Rattle.rules.specs.Refusals.{judge, once, short, vectorChecks, mostCells}
 use Rattle.rules.proofs.VectorsDriven.{vector-group}
 use Rattle.rules.proofs.Shape.{laid, shaped, one-block}
 use Rattle.rules.proofs.CheckLaws.{once-accepted}
-use Rattle.chains.proofs.Walks.{cells-fit}
 use Rattle.plan.proofs.PlanningLaws.{small-plan, total-is, groups-low}
 use Rattle.rigcandle.proofs.AnswerLaws.{vector-refused, vector-accepted, first-decides, second-decides, check-by}
+use Rattle.rigcandle.proofs.AdmittedLaws.{cells-few}
 use Rattle.rigcandle.proofs.questions.answer_vector.Statement.{statement}
 use Rattle.rigcandle.proofs.questions.answer_vector.Tie as tie
 
@@ -45,10 +45,7 @@ cells-are : (c : tie.After-plan-of) → c .before .before .read-sizes .result .c
 cells-are c = c .before .before .read-sizes .ensures .cells
 
 small : (c : tie.After-plan-of) → c .before .before .read-sizes .result .cells ≤ mostCells
-small c =
-    let e = cells-are c in
-    let f = cells-fit _ (start c .pre .ready .by-control .checked) in
-    omega arith
+small c = cells-few _ (start c .pre .ready .accepted) (cells-are c)
 
 -- the total is the board's
 total-of : (c : tie.After-once) → c .before .total .result ≡ totalOf (boardOf (file (planned c)))

@@ -55,14 +55,8 @@ returns c =
     let f = bit (c .before .args .word) in
     fun-ext (λ i. bit-zero i ∙ sym (ap (λ (k : ℕ). among k f i) (c .if1 .taken) ∙ among-none f i))
 
-loop-holds : tie.Need-loop-holds Inv-loop μ-loop
-loop-holds c = (omega arith, refl)
-
 top : (c : tie.In-loop Inv-loop μ-loop) → Highest (c .before .loop .kept)
 top c = highest _ (omega arith) (c .before .loop .inv .0)
-
-loop-less : tie.Need-loop-less Inv-loop μ-loop
-loop-less c = rw (top c .found) (omega (arith, top c, pow-pos (top c .place)))
 
 loop-again : tie.Need-loop-again Inv-loop μ-loop
 loop-again c =
@@ -76,7 +70,10 @@ returns-2 c =
 pub cut-spec : {M : Type 1} → statement M
 cut-spec =
     tie.close
-    (tie.spec Inv-loop μ-loop returns loop-holds
+    (tie.spec Inv-loop μ-loop
+    returns (λ c. (omega arith, refl))
     (λ c. omega (arith, ones-le 64 (c .loop .kept) (c .loop .inv .0)))
-    (λ c. top c .zeros) (λ c. omega arith) (λ c. omega arith) (λ c. rw (top c .found) (top c .within))
-    loop-less loop-again returns-2)
+    (λ c. top c .zeros) (λ c. omega arith) (λ c. omega arith)
+    (λ c. rw (top c .found) (top c .within))
+    (λ c. rw (top c .found) (omega (arith, top c, pow-pos (top c .place))))
+    loop-again returns-2)

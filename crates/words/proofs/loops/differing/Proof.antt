@@ -43,10 +43,6 @@ Inv-loop a b n₀ j₀ n j = (j ≤ length a) × (n ≡ count (64 * j) (differs 
 abbrev μ-loop : tie.MeasureT-loop
 μ-loop a b n₀ j₀ n j = length a - j
 
-loop-holds : tie.Need-loop-holds Inv-loop μ-loop
-unfolding count
-loop-holds c = (omega arith, omega arith)
-
 abbrev start : tie.After-shared-slice-known2 Inv-loop μ-loop → tie.Start Inv-loop μ-loop
 start c = c .before .before .before .before
 
@@ -55,9 +51,6 @@ here c =
     let j = c .before .before .before .loop .j in
     step _ _ j (c .before .shared-slice-known .given j .fits) (c .shared-slice-known2 .given j .fits)
 
-loop-again : tie.Need-loop-again Inv-loop μ-loop
-loop-again c = omega (arith, here c)
-
 returns : tie.Need-returns Inv-loop μ-loop
 returns c =
     let l = c .before .loop in
@@ -65,9 +58,10 @@ returns c =
     rw e at (l .inv .1)
 
 pub differing-spec : {M : Type 1} → statement M
+unfolding count
 differing-spec =
     tie.close
-    (tie.spec Inv-loop μ-loop loop-holds
-    (λ c. search needs) (λ c. search needs) (λ c. search needs) (λ c. omega arith)
-    (λ c. omega (arith, here c)) (λ c. omega (arith, here c)) (λ c. omega arith) (λ c. omega arith)
-    loop-again returns)
+    (tie.spec Inv-loop μ-loop
+    (λ c. (omega arith, omega arith))
+    (λ c. search needs) (λ c. search needs) (λ c. search needs) (λ c. omega arith) (λ c. omega (arith, here c))
+    (λ c. omega (arith, here c)) (λ c. omega arith) (λ c. omega arith) (λ c. omega (arith, here c)) returns)

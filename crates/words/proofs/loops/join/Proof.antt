@@ -18,9 +18,6 @@ Inv-loop into₀ from j₀ into j = Written (either (member into₀) (member fro
 abbrev μ-loop : tie.MeasureT-loop
 μ-loop into₀ from j₀ into j = length into₀ - j
 
-loop-holds : tie.Need-loop-holds Inv-loop μ-loop
-loop-holds c = written-none _ _
-
 loop-again : tie.Need-loop-again Inv-loop μ-loop
 loop-again c = combined-more _||_ bitOr bit-or _ _ (c .before .before .before .loop .inv) (omega arith)
 
@@ -30,6 +27,6 @@ returns c = combined-all _||_ bitOr bit-or _ _ (c .before .loop .inv) (omega ari
 pub join-spec : {M : Type 1} → statement M
 join-spec =
     tie.close
-    (tie.spec Inv-loop μ-loop loop-holds
-    (λ c. search needs) (λ c. search needs) (λ c. search needs) (λ c. omega arith) (λ c. search needs) (λ c. omega arith) (λ c. omega arith) (λ c. omega arith)
-    loop-again (λ c. omega arith) returns)
+    (tie.spec Inv-loop μ-loop
+    (λ c. written-none _ _) (λ c. search needs) (λ c. search needs) (λ c. search needs) (λ c. omega arith) (λ c. search needs)
+    (λ c. omega arith) (λ c. omega arith) (λ c. omega arith) loop-again (λ c. omega arith) returns)
