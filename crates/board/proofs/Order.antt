@@ -5,8 +5,7 @@ use mathlib.Core.List.{List, [], _∷_, _++_, append-assoc}
 use Rattle.rules.specs.File.{Board, boardOf, cellsOf, brokenAt}
 use Rattle.rules.specs.Refusals.{judge, each, crossed, unequal, shapeChecks, fileChecks, netChecks, controlChecks, earlyChecks, boardChecks}
 use Rattle.rules.specs.declared.Verdict.the-variants.{Accepted}
-use Rattle.rules.proofs.CheckLaws.{none-fails}
-use Rattle.rules.proofs.Verdicts.{Then, then-append}
+use Rattle.rules.proofs.Verdicts.{Then, then-append, judge-passes}
 use Rattle.board.specs.Bearing.{Sound}
 
 module _ (file : List ℕ) where
@@ -33,4 +32,4 @@ module _ (b : Board) where
   -- a sound board passes both
   pub sound-accepted : Sound b → Accepted ≡ judge (controlChecks b)
   unfolding controlChecks judge
-  sound-accepted s = sym (none-fails 10 (each 11 (b .size) (unequal b) ∷ []) (s .uncrossed) ∙ none-fails 11 [] (s .equal))
+  sound-accepted s = sym (judge-passes (each 10 _ _) (each 11 (b .size) (unequal b) ∷ []) (s .uncrossed) ∙ judge-passes (each 11 _ _) [] (s .equal))

@@ -23,10 +23,6 @@ module _ (number : ℕ) {places : ℕ} {fails : ℕ → Bool} {i : ℕ} where
   unfolding judge
   ended s m = ended-then [] s m
 
--- no place fails: the list goes on
-pub none-fails : (number : ℕ) {places : ℕ} {fails : ℕ → Bool} (checks : List Check) → ((i : ℕ) → i < places → fails i ≡ false) → judge (each number places fails ∷ checks) ≡ judge checks
-none-fails number {places} {fails} checks none = judge-passes (each number places fails) checks none
-
 -- a check that looks at one place: it fails, or the list goes on
 pub once-fails : (number : ℕ) (fails : Bool) (checks : List Check) → fails ≡ true → judge (once number fails ∷ checks) ≡ refuse number 0
 once-fails number fails checks e = found number checks (search-start 1 (λ place. fails)) (omega arith) e

@@ -1,8 +1,8 @@
 -- Where the test passes, no place fails; else each pair is looked at.
 use mathlib.Core.Path.{sym}
 use mathlib.Core.List.{[]}
-use Rattle.rules.specs.Refusals.{judge}
-use Rattle.rules.proofs.CheckLaws.{none-fails}
+use Rattle.rules.specs.Refusals.{judge, each}
+use Rattle.rules.proofs.Verdicts.{judge-passes}
 use Rattle.board.proofs.controls.crossed_verdict.Statement.{statement}
 use Rattle.board.proofs.controls.crossed_verdict.Tie as tie
 
@@ -13,7 +13,7 @@ returns : tie.Need-returns
 unfolding judge
 returns c =
     let f = c .before in
-    (f .nested-falling .ensures .0, sym (none-fails 10 [] (f .nested-falling .ensures .1 (c .if1 .taken))))
+    (f .nested-falling .ensures .0, sym (judge-passes (each 10 _ _) [] (f .nested-falling .ensures .1 (c .if1 .taken))))
 
 pub crossed-verdict-spec : {M : Type 1} → statement M
 crossed-verdict-spec =
