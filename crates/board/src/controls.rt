@@ -8,6 +8,7 @@ ghost use Rattle.rules.specs.File.{boardOf, cellsOf};
 ghost use Rattle.rules.specs.Drivers.{controlled};
 ghost use Rattle.rules.specs.Refusals.{judge, each, crossed, unequal, controlChecks};
 ghost use Rattle.words.specs.Sets.{netWords, member, relationOf};
+ghost use Rattle.cells.specs.Whole.{Sized};
 ghost use Rattle.chains.specs.Table.{ControlCell};
 ghost use Rattle.chains.specs.Chains.{Chains};
 ghost use Rattle.chains.specs.Counts.{Counted};
@@ -82,13 +83,13 @@ fn lowest_crossed(file: &[u8], table: &[u16; TABLE], cells: usize) -> Verdict
 }
 
 // Refusal 10: only where the quick test fails is each pair looked at. The table is as good as before.
-fn crossed_verdict(file: &[u8], table: &mut [u16; TABLE], cells: usize) -> Verdict
+fn crossed_verdict(file: &[u8], table: &mut [u16; TABLE], cells: usize, nets: usize) -> Verdict
     requires { ⌜ Filled (now file) (now table) ⌝ }
-    requires { ⌜ cells ≡ cellsOf (now file) ⌝ }
+    requires { ⌜ Sized (now file) cells nets ⌝ }
     ensures { λ r. ⌜ Filled (now (file .entry)) (now (table .exit)) ⌝ }
     ensures { λ r. ⌜ r ≡ judge (each 10 (cellsOf (now (file .entry))) (crossed (boardOf (now (file .entry)))) ∷ []) ⌝ }
 {
-    if nested_falling(file, table, cells) {
+    if nested_falling(file, table, cells, nets) {
         return Verdict::Accepted;
     }
     lowest_crossed(file, table, cells)
@@ -153,16 +154,21 @@ fn unequal_verdict(file: &[u8], table: &[u16; TABLE], cells: usize) -> Verdict
 }
 
 // Refusals 10 and 11: one walk tells of both on most boards; else one after the other.
-pub(crate) fn controls_verdict(file: &[u8], table: &mut [u16; TABLE], cells: usize) -> Verdict
+pub(crate) fn controls_verdict(
+    file: &[u8],
+    table: &mut [u16; TABLE],
+    cells: usize,
+    nets: usize,
+) -> Verdict
     requires { ⌜ Filled (now file) (now table) ⌝ }
-    requires { ⌜ cells ≡ cellsOf (now file) ⌝ }
+    requires { ⌜ Sized (now file) cells nets ⌝ }
     ensures { λ r. ⌜ Filled (now (file .entry)) (now (table .exit)) ⌝ }
     ensures { λ r. ⌜ r ≡ judge (controlChecks (boardOf (now (file .entry)))) ⌝ }
 {
     if sound_upward(file, table, cells) {
         return Verdict::Accepted;
     }
-    let crossed = crossed_verdict(file, table, cells);
+    let crossed = crossed_verdict(file, table, cells, nets);
     let Verdict::Accepted = crossed else {
         return crossed;
     };

@@ -42,7 +42,7 @@ pub fn examine(file: &[u8], table: &mut [u16; TABLE]) -> Verdict
     let Verdict::Accepted = nets else {
         return nets;
     };
-    controls_verdict(file, table, sizes.cells)
+    controls_verdict(file, table, sizes.cells, sizes.nets)
 }
 
 // The verdict on a board file, for all files.

@@ -10,6 +10,7 @@ use Rattle.rules.specs.File.{boardOf, cellsOf, netsOf}
 use Rattle.rules.specs.Refusals.{judge, fileChecks, mostCells, mostNets}
 use Rattle.rules.specs.declared.Verdict.the-variants.{Accepted}
 use Rattle.rules.proofs.Shape.{laid, shaped}
+use Rattle.cells.specs.Whole.{Sized}
 use Rattle.chains.specs.Table.{By, room, headIn, linkIn}
 use Rattle.chains.specs.Chains.{keyed, Chains}
 use Rattle.chains.proofs.Chaining.{last-le, Walking, walk-start, walk-next, walk-found, walk-ended, walk-member}
@@ -23,6 +24,9 @@ net-fits file ok n l = let f = laid file (shaped file ok) .nets .at-most in omeg
 
 pub cells-fit : (file : List ℕ) → judge (fileChecks file) ≡ Accepted → cellsOf file ≤ mostCells
 cells-fit file ok = laid file (shaped file ok) .cells .at-most
+
+pub sized-fits : (file : List ℕ) (cells nets : ℕ) → judge (fileChecks file) ≡ Accepted → Sized file cells nets → nets ≤ mostNets
+sized-fits file cells nets ok sized = let f = laid file (shaped file ok) .nets .at-most in let e = sized .nets-are in omega arith
 
 -- 1 + (at - 1) is at
 pub above : (at : ℕ) → 0 < at → suc (at - 1) ≡ at

@@ -35,11 +35,11 @@ pub controls-verdict-spec : {M : Type 1} → statement M
 controls-verdict-spec =
     tie.close
     (tie.spec
-    (λ c κs. c .before .before .pre)
+    (λ c κs. let p = c .before .before .pre in (p .0, p .1 .cells-are))
     returns
     (λ c κs. start (c .before .before) .pre)
     (λ c. search needs)
     (λ c. search needs)
     returns-2
-    (λ c κs. let x = c .before .before .before in (x .crossed-verdict .ensures .0, start (tried x) .pre .1))
+    (λ c κs. let x = c .before .before .before in (x .crossed-verdict .ensures .0, start (tried x) .pre .1 .cells-are))
     returns-3)

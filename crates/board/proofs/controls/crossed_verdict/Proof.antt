@@ -21,5 +21,5 @@ crossed-verdict-spec =
     (tie.spec
     (λ c κs. c .before .before .pre)
     returns
-    (λ c κs. let f = c .before .before in (f .nested-falling .ensures .0, start f .pre .1))
+    (λ c κs. let f = c .before .before in (f .nested-falling .ensures .0, start f .pre .1 .cells-are))
     (λ c. (c .before .before .before .nested-falling .ensures .0, c .lowest-crossed .ensures)))

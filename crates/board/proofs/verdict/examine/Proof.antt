@@ -47,6 +47,12 @@ returns-2 c =
     let e = passed (row-file _) (judged a .file-verdict .ensures) (a .enum-told .given .1) (stopped (row-nets _) (n .nets-verdict .ensures) (c .enum-told4 .given .1)) in
     (e, λ b. absurd (never _ (sym (c .enum-told4 .given .1) ∙ e ∙ b)))
 
+controls-verdict-requires : tie.Need-controls-verdict-requires
+controls-verdict-requires c κs =
+    let t = filled (c .before .before .before) in
+    let sizes = sized t .read-sizes .ensures in
+    (t .fill-table .ensures, record { cells-are = sizes .cells; nets-are = sizes .nets })
+
 returns-3 : tie.Need-returns-3
 returns-3 c =
     let told = c .before .before in
@@ -71,5 +77,5 @@ examine-spec =
     (λ c. search needs)
     (λ c. search needs)
     returns-2
-    (λ c κs. let t = filled (c .before .before .before) in (t .fill-table .ensures, sized t .read-sizes .ensures .cells))
+    controls-verdict-requires
     returns-3)
