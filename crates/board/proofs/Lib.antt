@@ -6,4 +6,5 @@ pub mod Crossings
 pub mod BearingLaws
 pub mod HeadLaws
 pub mod LevelLaws
+pub mod PassingLaws
 pub mod Order

@@ -1,12 +1,15 @@
 -- The order of the checks: the file's, and then the nets' and the control cells', each row as its first check and then the rest.
-use Prim.Native.Nat.{ℕ}
+use Prim.Native.Nat.{ℕ, _<_}
 use mathlib.Core.Path.{_≡_, sym, _∙_}
+use mathlib.Core.Bool.{false}
 use mathlib.Core.List.{List, [], _∷_, _++_, append-assoc}
 use Rattle.rules.specs.File.{Board, boardOf, cellsOf, brokenAt}
+use Rattle.rules.specs.Drivers.{drivers}
 use Rattle.rules.specs.Refusals.{judge, each, crossed, unequal, shapeChecks, fileChecks, netChecks, controlChecks, earlyChecks, boardChecks}
 use Rattle.rules.specs.declared.Verdict.the-variants.{Accepted}
 use Rattle.rules.proofs.Verdicts.{Then, then-append, judge-passes}
-use Rattle.board.specs.Bearing.{Sound}
+use Rattle.board.specs.Bearing.{Settled}
+use Rattle.board.proofs.LevelLaws.{settled-equal}
 
 module _ (file : List ℕ) where
   -- the file's checks: its shape, then its records
@@ -29,7 +32,12 @@ module _ (b : Board) where
   unfolding controlChecks
   row-crossed = then-append (each 10 (b .size) (crossed b) ∷ []) (each 11 (b .size) (unequal b) ∷ [])
 
-  -- a sound board passes both
-  pub sound-accepted : Sound b → Accepted ≡ judge (controlChecks b)
+  -- a board that is settled passes both, and one whose control cells do not cross the first
+  pub settled-accepted : Settled b (drivers b) → Accepted ≡ judge (controlChecks b)
   unfolding controlChecks judge
-  sound-accepted s = sym (judge-passes (each 10 _ _) (each 11 (b .size) (unequal b) ∷ []) (s .uncrossed) ∙ judge-passes (each 11 _ _) [] (s .equal))
+  settled-accepted s =
+      sym (judge-passes (each 10 _ _) (each 11 (b .size) (unequal b) ∷ []) (s .uncrossed) ∙ judge-passes (each 11 _ _) [] (settled-equal b s))
+
+  pub uncrossed-next : ((i : ℕ) → i < b .size → crossed b i ≡ false) → judge (controlChecks b) ≡ judge (each 11 (b .size) (unequal b) ∷ [])
+  unfolding controlChecks
+  uncrossed-next none = judge-passes (each 10 _ _) (each 11 (b .size) (unequal b) ∷ []) none

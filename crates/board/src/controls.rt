@@ -14,7 +14,8 @@ ghost use Rattle.chains.specs.Chains.{Chains};
 ghost use Rattle.chains.specs.Counts.{Counted};
 ghost use Rattle.chains.specs.Filling.{Filled};
 ghost use Rattle.board.specs.Controls.{isCrossing, driversAt, anyOther};
-use crate::falling::nested_falling;
+use crate::falling::Nesting;
+use crate::falling::tell_falling;
 use crate::nesting::sound_upward;
 use cells::net_at;
 use chains::TABLE;
@@ -82,19 +83,6 @@ fn lowest_crossed(file: &[u8], table: &[u16; TABLE], cells: usize) -> Verdict
     Verdict::Accepted
 }
 
-// Refusal 10: only where the quick test fails is each pair looked at. The table is as good as before.
-fn crossed_verdict(file: &[u8], table: &mut [u16; TABLE], cells: usize, nets: usize) -> Verdict
-    requires { ⌜ Filled (now file) (now table) ⌝ }
-    requires { ⌜ Sized (now file) cells nets ⌝ }
-    ensures { λ r. ⌜ Filled (now (file .entry)) (now (table .exit)) ⌝ }
-    ensures { λ r. ⌜ r ≡ judge (each 10 (cellsOf (now (file .entry))) (crossed (boardOf (now (file .entry)))) ∷ []) ⌝ }
-{
-    if nested_falling(file, table, cells, nets) {
-        return Verdict::Accepted;
-    }
-    lowest_crossed(file, table, cells)
-}
-
 // How many controlled drivers the net of the driver at c has.
 fn drivers_at(file: &[u8], table: &[u16; TABLE], c: Position) -> usize
     requires { ⌜ Counted (now file) (cellsOf (now file)) (now table) ⌝ }
@@ -153,7 +141,20 @@ fn unequal_verdict(file: &[u8], table: &[u16; TABLE], cells: usize) -> Verdict
     Verdict::Accepted
 }
 
-// Refusals 10 and 11: one walk tells of both on most boards; else one after the other.
+// Refusals 10 and 11, one after the other.
+fn search(file: &[u8], table: &[u16; TABLE], cells: usize) -> Verdict
+    requires { ⌜ Filled (now file) (now table) ⌝ }
+    requires { ⌜ cells ≡ cellsOf (now file) ⌝ }
+    ensures { λ r. ⌜ r ≡ judge (controlChecks (boardOf (now (file .entry)))) ⌝ }
+{
+    let crossed = lowest_crossed(file, table, cells);
+    let Verdict::Accepted = crossed else {
+        return crossed;
+    };
+    unequal_verdict(file, table, cells)
+}
+
+// Refusals 10 and 11. Each pair of control cells is looked at only where the tests tell nothing.
 pub(crate) fn controls_verdict(
     file: &[u8],
     table: &mut [u16; TABLE],
@@ -168,9 +169,10 @@ pub(crate) fn controls_verdict(
     if sound_upward(file, table, cells) {
         return Verdict::Accepted;
     }
-    let crossed = crossed_verdict(file, table, cells, nets);
-    let Verdict::Accepted = crossed else {
-        return crossed;
-    };
-    unequal_verdict(file, table, cells)
+    let told = tell_falling(file, table, cells, nets);
+    match told {
+        Nesting::Unknown => search(file, table, cells),
+        Nesting::Nested => unequal_verdict(file, table, cells),
+        Nesting::Sound => Verdict::Accepted,
+    }
 }
