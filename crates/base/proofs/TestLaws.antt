@@ -3,7 +3,7 @@ use Prim.Native.Nat.{ℕ, zero, suc, _<_, _≤_, max, _+_, _-_}
 use mathlib.Core.Path.{_≡_, refl, sym, _∙_, ap, ap₂}
 use mathlib.Core.Logic.{⊎-elim, _⊎_, inl, inr}
 use mathlib.Core.Bool.{Bool, true, false≢true, false, _&&_, true≢false, cond, not, _||_}
-use native.Mathlib.Nat.{le-max-left, le-max-right, eq-or-lt-of-le, sub-zero}
+use native.Mathlib.Nat.{le-max-left, le-max-right, eq-or-lt-of-le, add-zero, sub-zero}
 use native.Mathlib.Numerals.{add-one}
 use native.Mathlib.Omega.{arith}
 use Rattle.base.specs.Tests.{any, all, largest, seek, least}
@@ -70,10 +70,23 @@ pub record Lowest (p : ℕ → Bool) (from to at : ℕ) : Type 0 where
   pub passes : at < to → p at ≡ true
   pub lower : (j : ℕ) → from ≤ j → j < at → p j ≡ false
 
+-- none passes
+pub lowest-none : (p : ℕ → Bool) {from to : ℕ} → from ≤ to → ((j : ℕ) → from ≤ j → j < to → p j ≡ false) → Lowest p from to to
+lowest-none p h none = record { above = h; under = omega arith; passes = λ l. absurd (omega arith); lower = none }
+
+-- where none passes before i, the lowest from i on is the lowest
+pub lowest-on : {p : ℕ → Bool} {from i to at : ℕ} → Lowest p from i i → Lowest p i to at → Lowest p from to at
+lowest-on {i = i} a b =
+    record {
+      above = omega arith;
+      under = b .under;
+      passes = b .passes;
+      lower = λ j l h. ⊎-elim (λ (q : j < i). a .lower j l q) (λ (q : i ≤ j). b .lower j q h) (order j i);
+    }
+
 seek-left : (p : ℕ → Bool) (left i : ℕ) → Lowest p i (i + left) (seek p left i)
 unfolding seek
-seek-left p zero i =
-    record { above = omega arith; under = omega arith; passes = λ h. absurd (omega arith); lower = λ j l h. absurd (omega arith) }
+seek-left p zero i = rw add-zero (lowest-none p (omega arith) (λ j l h. absurd (omega arith)))
 seek-left p (suc left) i = go (p i) refl (seek-left p left (suc i))
   where
     go : (a : Bool) → p i ≡ a → Lowest p (suc i) (suc i + left) (seek p left (suc i)) → Lowest p i (i + suc left) (cond a i (seek p left (suc i)))
@@ -117,7 +130,7 @@ least-at n p l e low =
 
 pub least-none : (n : ℕ) (p : ℕ → Bool) → ((j : ℕ) → j < n → p j ≡ false) → least n p ≡ n
 least-none n p none =
-    least-only n p (record { above = omega arith; under = omega arith; passes = λ h. absurd (omega arith); lower = λ j h q. none j q })
+    least-only n p (lowest-none p (omega arith) (λ j h q. none j q))
 
 -- some pass where not each fails
 pub any-all-not : (n : ℕ) (p : ℕ → Bool) → not (all n (λ i. not (p i))) ≡ any n p

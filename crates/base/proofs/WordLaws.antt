@@ -14,7 +14,7 @@ use lib.Pow.{pow-pos, pow-mono, shl-exact, shr-shr}
 use Rattle.base.specs.Tests.{digit}
 use Rattle.base.specs.Counting.{count, among}
 use Rattle.base.specs.Digits.{bit, word}
-use Rattle.base.proofs.TestLaws.{Lowest}
+use Rattle.base.proofs.TestLaws.{Lowest, lowest-none}
 use Rattle.base.proofs.BoolLaws.{fails-if, right, order}
 use Rattle.base.proofs.CountingLaws.{count-same, among-all}
 use Rattle.base.proofs.DigitLaws.{digit-of, bit-lt, bit-word, bit-word-out, word-same, word-none, word-lt, word-bits, bits-equal}
@@ -167,7 +167,7 @@ bit-half w k = rw (bit-shifted w 1 k, one-add)
 pub trailing-lowest : (n w : ℕ) → Lowest (bit w) 0 n (trailingZeros n w)
 unfolding trailingZeros
 trailing-lowest zero w =
-    record { above = omega arith; under = omega arith; passes = λ h. absurd (omega arith); lower = λ j l h. absurd (omega arith) }
+    lowest-none _ (omega arith) (λ j l h. absurd (omega arith))
 trailing-lowest (suc n) w = go (w % 2) refl (omega arith) (trailingZeros n (w / 2)) (trailing-lowest n (w / 2))
   where
     go : (d : ℕ) → w % 2 ≡ d → d < 2 → (t : ℕ) → Lowest (bit (w / 2)) 0 n t → Lowest (bit w) 0 (suc n) (under d t)

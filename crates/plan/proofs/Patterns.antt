@@ -1,4 +1,5 @@
--- A pattern word by word: for 64 nets from a multiple of 64 on, each of the codes' six lowest digits is always the same word, and a higher one changes at most before the last net.
+-- A pattern word by word: for 64 nets from a multiple of 64 on, each of the codes' six lowest digits is always the same word, and a higher
+-- one changes at most before the last net.
 use Prim.Native.Nat.{ℕ, zero, suc, _+_, _*_, _-_, _/_, _%_, _^_, _≤_, _<_}
 use mathlib.Core.Path.{_≡_, refl, sym, _∙_, ap, fun-ext}
 use mathlib.Core.Logic.{⊎-elim}

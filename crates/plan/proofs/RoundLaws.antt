@@ -1,4 +1,5 @@
--- Why one round of the patterns tells of all groups: base vector turn * wide + j has the values of base vector j, so as many vectors follow it, and the parts start as far apart.
+-- Why one round of the patterns tells of all groups: base vector turn * wide + j has the values of base vector j, so as many vectors
+-- follow it, and the parts start as far apart.
 use Prim.Native.Nat.{ℕ, zero, suc, _+_, _*_, _-_, _≤_, _<_}
 use mathlib.Core.Path.{_≡_, refl, sym, _∙_, ap, ap₂}
 use mathlib.Core.Logic.{⊎-elim}

@@ -8,7 +8,7 @@ use mathlib.Core.List.{List}
 use native.Mathlib.Omega.{arith}
 use borrow.Author.Tests.{eqb-true, eqb-false, ltb-true}
 use lib.Dec.{eqb, ltb}
-use Rattle.base.proofs.BoolLaws.{left, right, order}
+use Rattle.base.proofs.BoolLaws.{left, right, clashes, order}
 use Rattle.rules.specs.File.{byKind, means, none, kindOf, onValueOf, controlOf, netOf, kindAt, onAt, controlAt, netAt, netsOf, ofKind2, tableOf, recordOf, cellOf, isBroken}
 use Rattle.rules.specs.declared.Cell.{Cell}
 use Rattle.rules.specs.declared.Cell.the-variants.{Internal, Input, Control, ThreeState, TwoState}
@@ -76,56 +76,35 @@ module _ (kind on control net : ℕ) (switched connected : Bool) (cell : Cell) w
       let ac = left (a && c) n (m .0) in
       subst (Says kind on control net switched connected) (m .1) (says (left a c ac) (right a ac) (right (a && c) (m .0)))
 
+  -- a column that is as the table has it, and one that is not due
+  is : (x y : ℕ) → eqb x y ≡ true → y ≡ x
+  is x y h = sym (eqb-true x y h)
+
+  undue : (due : ℕ → Bool) {k : ℕ} {given : Bool} → kind ≡ k → due k ≡ false → due kind ≡ true → given ≡ true
+  undue due e f h = absurd (clashes h (rw e f))
+
+  -- the six columns of a row, in the table's order
+  columns :
+      (x : Cell) → kindOf x ≡ kind → onValueOf x ≡ on → controlOf x ≡ control → netOf x ≡ net →
+      (switches kind ≡ true → switched ≡ true) → (connects kind ≡ true → connected ≡ true) → Says kind on control net switched connected x
+  columns x k o c n has-control has-net =
+      record { kind-is = k; on-is = o; control-is = c; net-is = n; has-control = has-control; has-net = has-net }
+
   -- "one is never used as the other": a record that is not broken means the cell that has its very columns
   pub table-says : tableOf kind on control net switched connected ≡ Means cell → Says kind on control net switched connected cell
   unfolding tableOf kindOf onValueOf controlOf netOf
   table-says =
       by-kind (λ (r : Record). r ≡ Means cell → Says kind on control net switched connected cell) kind _ _ _ _ _ _
       (λ k. row (eqb on 0) (eqb control none) (eqb net none) Internal
-      (λ o c n. record {
-        kind-is = sym k;
-        on-is = sym (eqb-true on 0 o);
-        control-is = sym (eqb-true control none c);
-        net-is = sym (eqb-true net none n);
-        has-control = λ h. absurd (false≢true (rw k at h));
-        has-net = λ h. absurd (false≢true (rw k at h));
-      }))
+      (λ o c n. columns _ (sym k) (is on 0 o) (is control none c) (is net none n) (undue switches k refl) (undue connects k refl)))
       (λ k. row (eqb on 0) (eqb control none) connected (Input (record { 0 = net }))
-      (λ o c n. record {
-        kind-is = sym k;
-        on-is = sym (eqb-true on 0 o);
-        control-is = sym (eqb-true control none c);
-        net-is = refl;
-        has-control = λ h. absurd (false≢true (rw k at h));
-        has-net = λ h. n;
-      }))
+      (λ o c n. columns _ (sym k) (is on 0 o) (is control none c) refl (undue switches k refl) (λ h. n)))
       (λ k. row (ltb on 2) (eqb control none) (eqb net none) (Control (eqb on 1))
-      (λ o c n. record {
-        kind-is = sym k;
-        on-is = on-value on (ltb-true on 2 o);
-        control-is = sym (eqb-true control none c);
-        net-is = sym (eqb-true net none n);
-        has-control = λ h. absurd (false≢true (rw k at h));
-        has-net = λ h. absurd (false≢true (rw k at h));
-      }))
+      (λ o c n. columns _ (sym k) (on-value on (ltb-true on 2 o)) (is control none c) (is net none n) (undue switches k refl) (undue connects k refl)))
       (λ k. row (eqb on 0) switched connected (ThreeState (record { 0 = control }) (record { 0 = net }))
-      (λ o c n. record {
-        kind-is = sym k;
-        on-is = sym (eqb-true on 0 o);
-        control-is = refl;
-        net-is = refl;
-        has-control = λ h. c;
-        has-net = λ h. n;
-      }))
+      (λ o c n. columns _ (sym k) (is on 0 o) refl refl (λ h. c) (λ h. n)))
       (λ k. row (eqb on 0) (eqb control none) connected (TwoState (record { 0 = net }))
-      (λ o c n. record {
-        kind-is = sym k;
-        on-is = sym (eqb-true on 0 o);
-        control-is = sym (eqb-true control none c);
-        net-is = refl;
-        has-control = λ h. absurd (false≢true (rw k at h));
-        has-net = λ h. n;
-      }))
+      (λ o c n. columns _ (sym k) (is on 0 o) (is control none c) refl (undue switches k refl) (λ h. n)))
       (λ e. let z : _≡_ {A = ℕ} 0 1 = cc in absurd (omega arith))
 
 -- the record at a position

@@ -1,7 +1,7 @@
 -- `words::loops::compare` meets its contract: each answer goes by what the calls before it said.
 use Prim.Native.Nat.{ℕ, _*_}
 use mathlib.Core.Path.{_≡_, refl, sym, _∙_, ap}
-use mathlib.Core.Bool.{Bool}
+use mathlib.Core.Bool.{Bool, false}
 use mathlib.Core.List.{List}
 use native.Mathlib.Omega.{arith}
 use lib.ListN.{length}
@@ -41,23 +41,20 @@ returns-3 c =
     let inside = sym (c .before .before .if1 .left) ∙ i .inside .ensures in
     relation-by _ _ (start i .pre) inside (sym (c .if3 .taken) ∙ c .before .inside3 .ensures) refl
 
-returns-4 : tie.Need-returns-4
-returns-4 c =
-    let h = c .before .before in
+-- neither holds the other: by whether they meet
+neither :
+    (h : tie.Else3) {z : Bool} →
+    let s = start (h .before .before .before) .args in
+    z ≡ meetsIn (64 * length (s .a .now)) (member (s .a .now)) (member (s .b .now)) →
+    relationBy false false z ≡ relationOf (64 * length (s .a .now)) (member (s .a .now)) (member (s .b .now))
+neither h meet =
     let i = h .before .before .before in
     let inside = sym (h .before .before .if1 .left) ∙ i .inside .ensures in
-    let holds = sym (h .if3 .left) ∙ h .before .inside3 .ensures in
-    relation-by _ _ (start i .pre) inside holds (sym (c .if4 .taken) ∙ c .before .meets .ensures)
-
-returns-5 : tie.Need-returns-5
-returns-5 c =
-    let h = c .before .before in
-    let i = h .before .before .before in
-    let inside = sym (h .before .before .if1 .left) ∙ i .inside .ensures in
-    let holds = sym (h .if3 .left) ∙ h .before .inside3 .ensures in
-    relation-by _ _ (start i .pre) inside holds (sym (c .if4 .left) ∙ c .before .meets .ensures)
+    relation-by _ _ (start i .pre) inside (sym (h .if3 .left) ∙ h .before .inside3 .ensures) meet
 
 pub compare-spec : {M : Type 1} → statement M
 compare-spec =
     tie.close
-    (tie.spec (λ c κs. omega arith) (λ c κs. omega arith) returns returns-2 (λ c κs. omega arith) returns-3 (λ c κs. omega arith) returns-4 returns-5)
+    (tie.spec (λ c κs. omega arith) (λ c κs. omega arith) returns returns-2 (λ c κs. omega arith) returns-3 (λ c κs. omega arith)
+    (λ c. neither (c .before .before) (sym (c .if4 .taken) ∙ c .before .meets .ensures))
+    (λ c. neither (c .before .before) (sym (c .if4 .left) ∙ c .before .meets .ensures)))

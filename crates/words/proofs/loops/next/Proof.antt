@@ -11,23 +11,13 @@ use lib.Count.{trailingZeros, trailing-le}
 use lib.ListN.{length, getD}
 use lib.Pow.{shr-lt}
 use Rattle.base.specs.Digits.{bit}
-use Rattle.base.proofs.TestLaws.{Lowest, seek-at}
+use Rattle.base.proofs.TestLaws.{Lowest, lowest-none, lowest-on, seek-at}
 use Rattle.base.proofs.BoolLaws.{order}
 use Rattle.base.proofs.WordLaws.{bit-zero, none-zero, trailing-lowest}
 use Rattle.words.specs.Sets.{member}
 use Rattle.words.proofs.SetLaws.{member-from}
 use Rattle.words.proofs.loops.next.Statement.{statement}
 use Rattle.words.proofs.loops.next.Tie as tie
-
--- where none passes before i, the lowest from i on is the lowest
-lowest-on : {p : ℕ → Bool} {from i to at : ℕ} → Lowest p from i i → Lowest p i to at → Lowest p from to at
-lowest-on {i = i} a b =
-    record {
-      above = omega arith;
-      under = b .under;
-      passes = b .passes;
-      lower = λ j l h. ⊎-elim (λ (q : j < i). a .lower j l q) (λ (q : i ≤ j). b .lower j q h) (order j i);
-    }
 
 -- word i / 64, shifted down to i
 abbrev shifted : List ℕ → ℕ → ℕ
@@ -37,12 +27,7 @@ module _ (ws : List ℕ) (i : ℕ) where
   -- no member from i to the end of its word, where that word is zero from i on
   none-here : shifted ws i ≡ 0 → Lowest (member ws) i (64 * (i / 64 + 1)) (64 * (i / 64 + 1))
   none-here e =
-      record {
-        above = omega arith;
-        under = omega arith;
-        passes = λ h. absurd (omega arith);
-        lower = λ m l h. member-from ws i l h ∙ ap (λ (w : ℕ). bit w (m - i)) e ∙ bit-zero (m - i);
-      }
+      lowest-none _ (omega arith) (λ m l h. member-from ws i l h ∙ ap (λ (w : ℕ). bit w (m - i)) e ∙ bit-zero (m - i))
 
   -- and else the lowest member is there
   lowest-here :
@@ -71,10 +56,6 @@ Inv-loop words from i₀ i = (i ≤ 64 * length words) × Lowest (member words) 
 abbrev μ-loop : tie.MeasureT-loop
 μ-loop words from i₀ i = 64 * length words - i
 
-loop-holds : tie.Need-loop-holds Inv-loop μ-loop
-loop-holds c =
-    (omega arith, record { above = omega arith; under = omega arith; passes = λ h. absurd (omega arith); lower = λ j l h. absurd (omega arith) })
-
 abbrev at-loop : tie.Then1 Inv-loop μ-loop → tie.At-loop Inv-loop μ-loop
 at-loop c = c .before .before .before
 
@@ -102,6 +83,7 @@ returns-2 c =
 pub next-spec : {M : Type 1} → statement M
 next-spec =
     tie.close
-    (tie.spec Inv-loop μ-loop loop-holds
+    (tie.spec Inv-loop μ-loop
+    (λ c. (omega arith, lowest-none _ (omega arith) (λ j l h. absurd (omega arith))))
     (λ c. search needs) (λ c. search needs) (λ c. search needs) (λ c. omega (arith, zeros c)) (λ c. omega (arith, zeros c))
     returns (λ c. omega arith) (λ c. omega arith) (λ c. omega arith) loop-again returns-2)
