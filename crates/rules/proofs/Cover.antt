@@ -90,6 +90,7 @@ module _ (b : Board) (require : Requirement b) (eligible : ℕ → Bool) (on : L
           let aR = passes-not _ (q .0) in
           (f .0, f .1, aR, lies (f .0) (f .1) aR (q .1))
 
+  -- from an eligible cell S of n: the cell that marks it is at n, or a smaller one goes on
   covers : (fuel S : ℕ) → count (b .nets) (drives b S) < fuel → S < b .size → available b eligible n S ≡ true → Covered b on n
   unfolding Smaller
   covers zero S f u a = absurd (omega arith)
