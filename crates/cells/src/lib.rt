@@ -86,29 +86,29 @@ fn means(fits: bool, cell: Cell) -> Record
 }
 
 // The table of cell kinds: what a record with these columns means.
-fn table(kind: u8, on: u8, control: u16, net: u16, switched: bool, connected: bool) -> Record
-    ensures { λ r. ⌜ r ≡ tableOf kind on control net switched connected ⌝ }
+fn table(kind: u8, on: u8, control: Position, net: Net, switched: bool, connected: bool) -> Record
+    ensures { λ r. ⌜ r ≡ tableOf kind on (control .0) (net .0) switched connected ⌝ }
 {
     match kind {
         0 => means(
-            columns(on == 0, control == NONE, net == NONE),
+            columns(on == 0, control.0 == NONE, net.0 == NONE),
             Cell::Internal,
         ),
         1 => means(
-            columns(on == 0, control == NONE, connected),
-            Cell::Input(Net(net)),
+            columns(on == 0, control.0 == NONE, connected),
+            Cell::Input(net),
         ),
         2 => means(
-            columns(on < 2, control == NONE, net == NONE),
+            columns(on < 2, control.0 == NONE, net.0 == NONE),
             Cell::Control(on == 1),
         ),
         3 => means(
             columns(on == 0, switched, connected),
-            Cell::ThreeState(Position(control), Net(net)),
+            Cell::ThreeState(control, net),
         ),
         4 => means(
-            columns(on == 0, control == NONE, connected),
-            Cell::TwoState(Net(net)),
+            columns(on == 0, control.0 == NONE, connected),
+            Cell::TwoState(net),
         ),
         _ => Record::Broken,
     }
@@ -124,10 +124,10 @@ fn record_of(file: &[u8], cells: usize, nets: usize, p: Position) -> Record
     let at = record_start(p);
     let kind = file[at];
     let on = file[at + 1];
-    let control = blocks::pair(file, at + 2);
-    let net = blocks::pair(file, at + 4);
-    let switched = of_kind_2(file, cells, Position(control));
-    let connected = (net as usize) < nets;
+    let control = Position(blocks::pair(file, at + 2));
+    let net = Net(blocks::pair(file, at + 4));
+    let switched = of_kind_2(file, cells, control);
+    let connected = (net.0 as usize) < nets;
     table(kind, on, control, net, switched, connected)
 }
 

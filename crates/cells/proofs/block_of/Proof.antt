@@ -6,4 +6,6 @@ use Rattle.cells.proofs.block_of.Statement.{statement}
 use Rattle.cells.proofs.block_of.Tie as tie
 
 pub block-of-spec : {M : Type 1} → statement M
-block-of-spec = tie.close (tie.spec (λ c. search needs) (λ c. search needs) (λ c. search needs) (λ c. let l = c .before .pre in omega arith))
+block-of-spec =
+    tie.close
+    (tie.spec (λ c. search needs) (λ c. search needs) (λ c. search needs) (λ c. let l = c .before .pre in omega arith))

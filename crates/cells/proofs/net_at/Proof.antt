@@ -7,7 +7,7 @@ use Rattle.rules.specs.File.{recordAt, boardOf, numberAt, netAt, brokenAt, netO
 use Rattle.rules.proofs.RecordLaws.{record-says}
 use Rattle.rules.proofs.Shape.{whole-records}
 use Rattle.cells.specs.Whole.{Whole}
-use Rattle.cells.proofs.WholeLaws.{position-bounded, whole-shaped, in-record}
+use Rattle.cells.proofs.WholeLaws.{whole-bounded, in-record}
 use Rattle.cells.proofs.net_at.Statement.{statement}
 use Rattle.cells.proofs.net_at.Tie as tie
 
@@ -20,7 +20,7 @@ pub net-at-spec : {M : Type 1} → statement M
 net-at-spec =
     tie.close
     (tie.spec
-    (λ c κs. let p = c .before .pre in let f = position-bounded _ _ (whole-shaped _ _ p) (p .below) in omega arith)
+    (λ c κs. whole-bounded _ _ (c .before .pre))
     (λ c. let h = in-record _ _ _ (c .before .before .pre) (c .record-start .ensures) in omega arith)
     (λ c κs. let h = in-record _ _ _ (c .before .before .pre) (c .record-start .ensures) in omega arith)
     (λ c. c .pair .ensures ∙ as-read _ _ _ (c .before .before .before .pre) (c .before .record-start .ensures)))

@@ -42,8 +42,8 @@ returns : tie.Need-returns
 returns c =
     below _ _ _ _ (c .before .before .before .before .before .pre .1) (c .before .before .if1 .taken) (c .before .record-start .ensures)
 
-returns-2 : tie.Need-returns-2
-returns-2 c = past _ _ _ (c .before .before .before .pre .1) (c .if1 .left)
-
 pub of-kind-2-spec : {M : Type 1} → statement M
-of-kind-2-spec = tie.close (tie.spec (λ c. search needs) record-start-requires shared-slice-read-result returns returns-2)
+of-kind-2-spec =
+    tie.close
+    (tie.spec (λ c. search needs) record-start-requires shared-slice-read-result returns
+    (λ c. past _ _ _ (c .before .before .before .pre .1) (c .if1 .left)))

@@ -2,16 +2,15 @@
 use Prim.Native.Nat.{ℕ, _+_, _≤_}
 use mathlib.Core.Path.{_≡_, sym, _∙_, ap, ap₂}
 use mathlib.Core.List.{List}
-use borrow.Author.Tests.{ne-eqb}
 use native.Mathlib.Omega.{arith}
 use lib.ListN.{length, getD}
-use Rattle.rules.specs.File.{recordAt, recordSize, numberAt, byteAt, kindAt, onAt, controlAt, netAt, tableOf, recordOf, brokenAt}
+use Rattle.rules.specs.File.{recordAt, recordSize, numberAt, byteAt, kindAt, onAt, controlAt, netAt, recordOf, brokenAt}
 use Rattle.rules.specs.declared.Cell.the-variants.{Input, ThreeState, TwoState}
-use Rattle.rules.specs.declared.Record.the-variants.{Means, Broken}
+use Rattle.rules.specs.declared.Record.the-variants.{Means}
 use Rattle.rules.proofs.RecordLaws.{plainRecord, plain-record}
 use Rattle.rules.proofs.Shape.{whole-records}
 use Rattle.cells.specs.Whole.{Whole}
-use Rattle.cells.proofs.WholeLaws.{position-bounded, whole-shaped, in-record}
+use Rattle.cells.proofs.WholeLaws.{whole-bounded, in-record, no-row}
 use Rattle.cells.proofs.plain_record.Statement.{statement}
 use Rattle.cells.proofs.plain_record.Tie as tie
 
@@ -26,28 +25,12 @@ as-read file p at kind w e k =
     let r = plain-record file p (whole-records file (w .checked) p (w .below)) in
     rw (← k, e) (sym r)
 
--- no kind of the table
-unmeant :
-    (file : List ℕ) (p at : ℕ) →
-    at ≡ recordAt p →
-    (getD file at 0 ≡ 0 → ⊥) →
-    (getD file at 0 ≡ 1 → ⊥) →
-    (getD file at 0 ≡ 2 → ⊥) →
-    (getD file at 0 ≡ 3 → ⊥) →
-    (getD file at 0 ≡ 4 → ⊥) →
-    Broken ≡ recordOf file p
-unfolding recordOf tableOf kindAt byteAt
-unmeant file p at e n0 n1 n2 n3 n4 = rw (← e, ne-eqb _ 0 n0, ne-eqb _ 1 n1, ne-eqb _ 2 n2, ne-eqb _ 3 n3, ne-eqb _ 4 n4)
-
 -- the entry as seen from where the record begins, and that the record lies in the file
 abbrev entry : tie.After-record-start → tie.Start
 entry d = d .before .before
 
 room : (d : tie.After-record-start) → d .record-start .result + recordSize ≤ length (entry d .args .file .now)
 room d = in-record _ _ _ (entry d .pre) (d .record-start .ensures)
-
-returns : tie.Need-returns
-returns c = let d = c .before .before in as-read _ _ _ 0 (entry d .pre) (d .record-start .ensures) (c .match .keys1)
 
 returns-2 : tie.Need-returns-2
 returns-2 c =
@@ -71,15 +54,17 @@ returns-5 c =
     ap (λ (n : ℕ). Means (TwoState (record { 0 = n }))) (c .pair4 .ensures) ∙ as-read _ _ _ 4 (entry d .pre) (d .record-start .ensures) (c .before .match .keys5)
 
 returns-6 : tie.Need-returns-6
+unfolding recordOf kindAt byteAt
 returns-6 c =
     let no = c .match .rest in
-    unmeant _ _ _ (c .before .before .record-start .ensures) (no .0 .0 .0 .0 .1) (no .0 .0 .0 .1) (no .0 .0 .1) (no .0 .1) (no .1)
+    rw (← c .before .before .record-start .ensures)
+    (no-row _ _ _ _ _ _ (no .0 .0 .0 .0 .1) (no .0 .0 .0 .1) (no .0 .0 .1) (no .0 .1) (no .1))
 
 pub plain-record-spec : {M : Type 1} → statement M
 plain-record-spec =
     tie.close
     (tie.spec
-    (λ c κs. let p = c .before .pre in let f = position-bounded _ _ (whole-shaped _ _ p) (p .below) in omega arith)
+    (λ c κs. whole-bounded _ _ (c .before .pre))
     (λ c. let h = room (c .before) in omega arith)
     (λ c. let h = room (c .before .before) in omega arith)
     (λ c κs. let h = room (c .before .before) in omega arith)
@@ -91,9 +76,5 @@ plain-record-spec =
     (λ c κs. let h = room (c .before .before .before) in omega arith)
     (λ c. let h = room (c .before .before) in omega arith)
     (λ c κs. let h = room (c .before .before) in omega arith)
-    returns
-    returns-2
-    returns-3
-    returns-4
-    returns-5
-    returns-6)
+    (λ c. let d = c .before .before in as-read _ _ _ 0 (entry d .pre) (d .record-start .ensures) (c .match .keys1))
+    returns-2 returns-3 returns-4 returns-5 returns-6)

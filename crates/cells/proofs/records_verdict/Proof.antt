@@ -31,18 +31,11 @@ one i =
 few : (i : tie.In-loop Inv-loop μ-loop) → i .before .loop .p < mostCells
 few i = position-bounded _ _ (start (i .before) .pre .0) (one i)
 
--- where the record was looked at
-abbrev looked : tie.After-record-of Inv-loop μ-loop → tie.In-loop Inv-loop μ-loop
-looked d = d .before
-
-record-of-requires : tie.Need-record-of-requires Inv-loop μ-loop
-record-of-requires c κs = let p = start (c .before) .pre in (p .0, (p .1, c .loop-test .taken))
-
 returns : tie.Need-returns Inv-loop μ-loop
 unfolding brokenAt
 returns c =
     let d = c .before .before .before in
-    let i = looked d in
+    let i = d .before in
     c .refuse .ensures
     ∙ sym (found 6 [] (i .before .loop .inv) (one i) (rw (← d .record-of .ensures, c .before .enum-told2 .given .1)))
 
@@ -50,7 +43,7 @@ loop-again : tie.Need-loop-again Inv-loop μ-loop
 unfolding brokenAt
 loop-again c =
     let d = c .before .before in
-    let i = looked d in
+    let i = d .before in
     search-next (i .before .loop .inv) (one i) (rw (← d .record-of .ensures, c .enum-told .given .1))
 
 returns-2 : tie.Need-returns-2 Inv-loop μ-loop
@@ -62,17 +55,10 @@ returns-2 c =
 pub records-verdict-spec : {M : Type 1} → statement M
 records-verdict-spec =
     tie.close
-    (tie.spec
-    Inv-loop
-    μ-loop
+    (tie.spec Inv-loop μ-loop
     (λ c. search-start _ _)
     (λ c. let f = few c in omega arith)
-    record-of-requires
-    (λ c. search needs)
-    (λ c. search needs)
-    (λ c κs. let f = few (looked (c .before .before)) in omega arith)
-    returns
-    (λ c. omega arith)
-    (λ c. omega arith)
-    loop-again
-    returns-2)
+    (λ c κs. let p = start (c .before) .pre in (p .0, (p .1, c .loop-test .taken)))
+    (λ c. search needs) (λ c. search needs)
+    (λ c κs. let f = few (c .before .before .before) in omega arith)
+    returns (λ c. omega arith) (λ c. omega arith) loop-again returns-2)
