@@ -33,10 +33,18 @@ unsure-is : (byte : ℕ) → ltb 1 byte ≡ isUnsure byte
 unsure-is byte =
     same-test _ _
     (λ t. let l = ltb-true 1 byte t in both (not-fails (ne-eqb byte 0 (λ e. omega arith))) (not-fails (ne-eqb byte 1 (λ e. omega arith))))
-    (λ t. let p = eqb-false byte 0 (fails-not _ (left (not (isPass byte)) _ t)) in let f = eqb-false byte 1 (fails-not _ (right (not (isPass byte)) t)) in lt-ltb 1 byte (omega arith))
+    (λ t.
+    let p = eqb-false byte 0 (fails-not _ (left (not (isPass byte)) _ t)) in
+    let f = eqb-false byte 1 (fails-not _ (right (not (isPass byte)) t)) in
+    lt-ltb 1 byte (omega arith))
 
 -- one mark byte more, by the digits of its three tests
-pub one-more : (counts : Counts) (byte p f u : ℕ) → p ≡ digit (isPass byte) → f ≡ digit (isFail byte) → u ≡ digit (ltb 1 byte) → record { pass = counts .pass + p; fail = counts .fail + f; unsure = counts .unsure + u } ≡ oneMore counts byte
+pub one-more :
+    (counts : Counts) (byte p f u : ℕ) →
+    p ≡ digit (isPass byte) →
+    f ≡ digit (isFail byte) →
+    u ≡ digit (ltb 1 byte) →
+    record { pass = counts .pass + p; fail = counts .fail + f; unsure = counts .unsure + u } ≡ oneMore counts byte
 unfolding oneMore
 one-more counts byte p f u passes fails neither = rw (passes, fails, neither, unsure-is)
 
@@ -57,7 +65,11 @@ unfolding countsOf oneMore
 counts-more bytes byte = rw (bytes-more isPass bytes byte, bytes-more isFail bytes byte, bytes-more isUnsure bytes byte)
 
 -- a byte stored after others stands after them
-over-one : (bytes buffer : List ℕ) (n byte : ℕ) → length bytes ≡ n → n < length buffer → set (over bytes buffer) n byte ≡ over (bytes ++ (byte ∷ [])) buffer
+over-one :
+    (bytes buffer : List ℕ) (n byte : ℕ) →
+    length bytes ≡ n →
+    n < length buffer →
+    set (over bytes buffer) n byte ≡ over (bytes ++ (byte ∷ [])) buffer
 unfolding placed
 over-one bytes buffer n byte e l =
     let long : length bytes < length (over bytes buffer) = simp (length-append, length-drop) (omega arith) in
@@ -80,7 +92,14 @@ module _ (tests : Tests) where
     unfolding marksIn table countsOf bytesThat
     marked-none = record { buffer = refl; counted = refl }
 
-    pub marked-more : {n : ℕ} {after : List ℕ} {counts : Counts} → Marked tests n before after counts → n < length before → (byte : ℕ) (more : Counts) → byte ≡ byteOf (markIn tests n) → more ≡ oneMore counts byte → Marked tests (n + 1) before (set after n byte) more
+    pub marked-more :
+        {n : ℕ} {after : List ℕ} {counts : Counts} →
+        Marked tests n before after counts →
+        n < length before →
+        (byte : ℕ) (more : Counts) →
+        byte ≡ byteOf (markIn tests n) →
+        more ≡ oneMore counts byte →
+        Marked tests (n + 1) before (set after n byte) more
     marked-more {n} {after} {counts} m l byte more e c =
         record { buffer = stored; counted = c ∙ rw (marks-next n, counts-more (marksIn tests n), m .counted, e) }
       where
@@ -101,7 +120,11 @@ module _ (tests : Tests) where
     marked-few {n} m l =
         let long = marks-long n in
         rw (m .counted)
-        (record { pass = (let f = bytes-few isPass (marksIn tests n) in omega arith); fail = (let f = bytes-few isFail (marksIn tests n) in omega arith); unsure = (let f = bytes-few isUnsure (marksIn tests n) in omega arith) })
+        (record {
+          pass = omega (arith, bytes-few isPass (marksIn tests n));
+          fail = omega (arith, bytes-few isFail (marksIn tests n));
+          unsure = omega (arith, bytes-few isUnsure (marksIn tests n));
+        })
 
 -- sets that are the tests' nets give the tests' marks
 pub mark-in : (b : Board) (readings : List ℕ) (tests : Tests) → Tested b readings tests → (n : ℕ) → markIn tests n ≡ markBy b readings n

@@ -19,7 +19,16 @@ under : (a x y : Bool) → (a ≡ true → x ≡ y) → (a && x) ≡ (a && y)
 under true x y h = h refl
 under false x y h = refl
 
-module _ (b : Board) (capture readings : List ℕ) (right : (c : ℕ) → c < b .size → isInput b c ≡ true → (n : ℕ) → n < b .nets → eqb (read readings c) (suc n) ≡ all (totalOf b) (λ t. not (differsAt b capture n c t))) where
+module _
+    (b : Board)
+    (capture readings : List ℕ)
+    (right :
+    (c : ℕ) →
+    c < b .size →
+    isInput b c ≡ true →
+    (n : ℕ) →
+    n < b .nets →
+    eqb (read readings c) (suc n) ≡ all (totalOf b) (λ t. not (differsAt b capture n c t))) where
   failed-by : (n : ℕ) → n < b .nets → failedBy b readings n ≡ failed b capture n
   unfolding failedBy failsAt failed inputOf
   failed-by n l =

@@ -46,30 +46,50 @@ pub read-none : (f : ℕ → Bool) (entry : ℕ) → entry ≡ 0 → f ≡ plusR
 read-none f entry e = fun-ext (λ m. rw (ne-eqb entry (suc m) (λ q. omega arith)))
 
 pub read-one : (f : ℕ → Bool) (entry : ℕ) → (entry ≡ 0 → ⊥) → plus f (entry - 1) ≡ plusRead f entry
-read-one f entry ne =
-    fun-ext (λ m. ap (λ (a : Bool). a || f m) (same-test _ _ (λ t. let q = eqb-true m (entry - 1) t in eq-eqb entry (suc m) (omega arith)) (λ t. let q = eqb-true entry (suc m) t in eq-eqb m (entry - 1) (omega arith))))
+read-one f entry ne = fun-ext (λ m. ap (λ (a : Bool). a || f m) (same m))
+  where
+    same : (m : ℕ) → eqb m (entry - 1) ≡ eqb entry (suc m)
+    same m =
+        same-test _ _
+        (λ t. let q = eqb-true m (entry - 1) t in eq-eqb entry (suc m) (omega arith))
+        (λ t. let q = eqb-true entry (suc m) t in eq-eqb m (entry - 1) (omega arith))
 
 -- before the first cell no test is passed, after the last each is decided
-pub tested-none : (b : Board) (readings : List ℕ) (tests : Tests) → member (tests .seen .words) ≡ nothing → member (tests .failed .words) ≡ nothing → member (tests .twice .words) ≡ nothing → TestedBelow b readings 0 tests
+pub tested-none :
+    (b : Board) (readings : List ℕ) (tests : Tests) →
+    member (tests .seen .words) ≡ nothing →
+    member (tests .failed .words) ≡ nothing →
+    member (tests .twice .words) ≡ nothing →
+    TestedBelow b readings 0 tests
 unfolding any
-tested-none b readings tests s f t =
-    record { seen = λ n. ap (λ (p : ℕ → Bool). p n) s; failed = λ n. ap (λ (p : ℕ → Bool). p n) f; twice = λ n. ap (λ (p : ℕ → Bool). p n) t }
+tested-none b readings tests s f t = record { seen = λ n. rw s; failed = λ n. rw f; twice = λ n. rw t }
 
 pub tested-all : (b : Board) (readings : List ℕ) (c : ℕ) (tests : Tests) → TestedBelow b readings c tests → c ≡ b .size → Tested b readings tests
 unfolding seenBy failedBy twiceBy
 tested-all b readings c tests t e =
-    record { seen = fun-ext (λ n. t .seen n ∙ ap (λ (k : ℕ). any k (inputOf b n)) e); failed = fun-ext (λ n. t .failed n ∙ ap (λ (k : ℕ). any k (failsAt b readings n)) e); twice = fun-ext (λ n. t .twice n ∙ ap (λ (k : ℕ). any k (twiceAt b readings n)) e) }
+    record {
+      seen = fun-ext (λ n. rw e at (t .seen n));
+      failed = fun-ext (λ n. rw e at (t .failed n));
+      twice = fun-ext (λ n. rw e at (t .twice n));
+    }
 
 module _ (b : Board) (readings : List ℕ) (c : ℕ) (tests : Tests) (so-far : TestedBelow b readings c tests) where
   pub grown-none : readerIn (b .cell c) ≡ Nothing → TestedBelow b readings (c + 1) tests
   unfolding failsAt twiceAt
   grown-none e =
-      record { seen = λ n. any-kept c _ _ (so-far .seen n) (no-net b c e n); failed = λ n. any-kept c _ _ (so-far .failed n) (rw (no-net b c e n)); twice = λ n. any-kept c _ _ (so-far .twice n) (rw (no-input b c e)) }
+      record {
+        seen = λ n. any-kept c _ _ (so-far .seen n) (no-net b c e n);
+        failed = λ n. any-kept c _ _ (so-far .failed n) (rw (no-net b c e n));
+        twice = λ n. any-kept c _ _ (so-far .twice n) (rw (no-input b c e));
+      }
 
-  module _ (net : Net) (e : readerIn (b .cell c) ≡ Of net) (r : Tests) (joined : member (r .seen .words) ≡ plus (member (tests .seen .words)) (net .0)) where
+  module _
+      (net : Net)
+      (e : readerIn (b .cell c) ≡ Of net)
+      (r : Tests)
+      (joined : member (r .seen .words) ≡ plus (member (tests .seen .words)) (net .0)) where
     seen-grown : (n : ℕ) → member (r .seen .words) n ≡ any (c + 1) (inputOf b n)
-    seen-grown n =
-        any-grown c _ (eqb n (net .0)) _ _ (so-far .seen n) (own-input b c net e n ∙ eqb-back (net .0) n) (ap (λ (p : ℕ → Bool). p n) joined)
+    seen-grown n = any-grown c _ (eqb n (net .0)) _ _ (so-far .seen n) (own-input b c net e n ∙ eqb-back (net .0) n) (rw joined)
 
     differs-at : (n : ℕ) → failsAt b readings n c ≡ (eqb (net .0) n && not (eqb (read readings c) (suc n)))
     unfolding failsAt
@@ -81,8 +101,20 @@ module _ (b : Board) (readings : List ℕ) (c : ℕ) (tests : Tests) (so-far : T
 
     pub grown-own : r .failed ≡ tests .failed → r .twice ≡ tests .twice → read readings c ≡ net .0 + 1 → TestedBelow b readings (c + 1) r
     grown-own f t own =
-        record { seen = seen-grown; failed = λ n. rw f (any-kept c _ _ (so-far .failed n) (differs-at n ∙ own-same (net .0) n _ own)); twice = λ n. rw t (any-kept c _ _ (so-far .twice n) (borrows-at n ∙ own-alone (net .0) n _ own)) }
+        record {
+          seen = seen-grown;
+          failed = λ n. rw f (any-kept c _ _ (so-far .failed n) (differs-at n ∙ own-same (net .0) n _ own));
+          twice = λ n. rw t (any-kept c _ _ (so-far .twice n) (borrows-at n ∙ own-alone (net .0) n _ own));
+        }
 
-    pub grown-other : member (r .failed .words) ≡ plus (member (tests .failed .words)) (net .0) → member (r .twice .words) ≡ plusRead (member (tests .twice .words)) (read readings c) → (read readings c ≡ net .0 + 1 → ⊥) → TestedBelow b readings (c + 1) r
+    pub grown-other :
+        member (r .failed .words) ≡ plus (member (tests .failed .words)) (net .0) →
+        member (r .twice .words) ≡ plusRead (member (tests .twice .words)) (read readings c) →
+        (read readings c ≡ net .0 + 1 → ⊥) →
+        TestedBelow b readings (c + 1) r
     grown-other f t other =
-        record { seen = seen-grown; failed = λ n. any-grown c _ (eqb n (net .0)) _ _ (so-far .failed n) (differs-at n ∙ other-differs (net .0) n _ other) (ap (λ (p : ℕ → Bool). p n) f); twice = λ n. any-grown c _ (eqb (read readings c) (suc n)) _ _ (so-far .twice n) (borrows-at n ∙ other-read (net .0) n _ other) (ap (λ (p : ℕ → Bool). p n) t) }
+        record {
+          seen = seen-grown;
+          failed = λ n. any-grown c _ (eqb n (net .0)) _ _ (so-far .failed n) (differs-at n ∙ other-differs (net .0) n _ other) (rw f);
+          twice = λ n. any-grown c _ (eqb (read readings c) (suc n)) _ _ (so-far .twice n) (borrows-at n ∙ other-read (net .0) n _ other) (rw t);
+        }

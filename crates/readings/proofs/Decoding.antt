@@ -51,10 +51,6 @@ code-low p bytes capture j c e l z =
     let m = pow-mono {i = j} {j = mostWidth} l in
     rw s (let r = code-below p bytes capture j c in omega arith)
 
-pub code-none : (p : Plan) (bytes : ℕ) (capture : List ℕ) (c e : ℕ) → e ≡ codeFrom p bytes capture 0 c e
-unfolding codeFrom
-code-none p bytes capture c e = refl
-
 pub code-more :
     {before between after : List ℕ} {n : ℕ} (p : Plan) (bytes : ℕ) (capture : List ℕ) (j t : ℕ) →
     t ≡ startOf p j →
@@ -65,13 +61,6 @@ unfolding codeFrom
 code-more p bytes capture j t a m r =
     rw (add-one j)
     (mapped-same (λ c e. ap (λ (x : ℕ). 2 * codeFrom p bytes capture j c e + digit (rowBit capture (x * bytes) c)) a) (mapped-then m r))
-
-pub code-all :
-    {before after : List ℕ} {n : ℕ} (p : Plan) (bytes : ℕ) (capture : List ℕ) (j wide : ℕ) →
-    Mapped (codeFrom p bytes capture j) before n after →
-    j ≡ wide →
-    Mapped (codeFrom p bytes capture wide) before n after
-code-all p bytes capture j wide m e = mapped-same (λ c x. ap (λ (y : ℕ). codeFrom p bytes capture y c x) e) m
 
 -- a number's digits from the top: one more digit
 shifted : (w k : ℕ) → w / 2 ^ k ≡ 2 * (w / 2 ^ suc k) + digit (bit w k)

@@ -1,10 +1,9 @@
 -- Vector by vector: the cells that are left of those that follow their nets.
 use Prim.Native.Nat.{ℕ, zero, suc, _+_, _*_, _-_, _≤_, _<_}
 use mathlib.Core.Path.{_≡_, refl, sym, _∙_, ap, ap₂}
-use mathlib.Core.Bool.{Bool, true, false, xor, _&&_, _||_}
+use mathlib.Core.Bool.{Bool, true, false, xor, _&&_, _||_, or-comm}
 use mathlib.Core.List.{List}
 use native.Mathlib.Nat.{mul-le-mul-right, one-mul}
-use native.Mathlib.Numerals.{add-one}
 use native.Mathlib.Omega.{arith}
 use borrow.Author.Tests.{lt-ltb, le-ltb}
 use lib.ListN.{length, getD}
@@ -18,7 +17,7 @@ use Rattle.plan.specs.Plans.{basesFor, mix, Small, startOf}
 use Rattle.plan.proofs.StepLaws.{size}
 use Rattle.readings.specs.Readings.{valueAt, period, stray, strayAt, strayAfter, strayIn, otherLater, lost, Rowed, Left, Part}
 use Rattle.readings.proofs.CapturePlaces.{starts-next, starts-end, part-below, part-value, row-inside}
-use Rattle.readings.proofs.LeftLaws.{left-then, left-same, left-all}
+use Rattle.readings.proofs.LeftLaws.{left-then, left-same, left-all, left-one}
 use Rattle.readings.proofs.Repeating.{base-value, next-below, starts-least}
 
 -- one vector more
@@ -36,14 +35,9 @@ module _ (p : Plan) (bytes : ℕ) (capture table : List ℕ) where
       Left (λ c. any k (λ j. strayAfter p bytes capture table c (t + j))) before n between →
       Left (strayAt capture (u * bytes) ((u + 1) * bytes) (unlike f g) table) between n after →
       Left (λ c. any (k + 1) (λ j. strayAfter p bytes capture table c (t + j))) before n after
-  unfolding any
   left-next t k u f g e a b m r =
-      rw (add-one k)
-      (left-same (λ c. ap (λ (x : Bool). x || any k (λ j. strayAfter p bytes capture table c (t + j))) (stray-of u c f g a b ∙ ap (strayAfter p bytes capture table c) (sym e))) (left-then m r))
-
-  pub left-start : (t : ℕ) (before : List ℕ) (n : ℕ) → Left (λ c. any 0 (λ j. strayAfter p bytes capture table c (t + j))) before n before
-  unfolding any
-  left-start t before n = left-all (λ c. refl)
+      left-one (λ c j. strayAfter p bytes capture table c (t + j)) k m
+      (left-same (λ c. stray-of u c f g a b ∙ ap (strayAfter p bytes capture table c) (sym e)) r)
 
   -- where nothing is inserted all stay, and otherwise those of the vectors that are
   pub left-part :
@@ -75,26 +69,6 @@ module _ (p : Plan) (bytes : ℕ) (capture table : List ℕ) where
       (λ c. ap (λ (x : ℕ). any x (λ j. strayAfter p bytes capture table c (t + j))) (let s : k + 1 ≡ 1 + extra = omega arith in s))
       (left-next t k (t + extra) f g (ap (λ (x : ℕ). t + x) e) (a ∙ ap (λ (x : ℕ). valueAt p (t + x)) e) b m r)
 
-  -- one part more
-  pub left-parts :
-      {before between after : List ℕ} {n : ℕ} (i : ℕ) →
-      Left (λ c. any i (strayIn p bytes capture table c)) before n between →
-      Left (λ c. strayIn p bytes capture table c i) between n after →
-      Left (λ c. any (i + 1) (strayIn p bytes capture table c)) before n after
-  unfolding any
-  left-parts i m r = rw (add-one i) (left-then m r)
-
-  pub left-no-part : (before : List ℕ) (n : ℕ) → Left (λ c. any 0 (strayIn p bytes capture table c)) before n before
-  unfolding any
-  left-no-part before n = left-all (λ c. refl)
-
-  pub left-first :
-      {before after : List ℕ} {n : ℕ} (i wide : ℕ) →
-      Left (λ c. any i (strayIn p bytes capture table c)) before n after →
-      i ≡ wide →
-      Left (λ c. any wide (strayIn p bytes capture table c)) before n after
-  left-first i wide m e = left-same (λ c. ap (λ (x : ℕ). any x (strayIn p bytes capture table c)) e) m
-
   -- the first group and the later ones
   pub left-lost :
       {before between after : List ℕ} {n : ℕ} (first vectors : ℕ) →
@@ -107,15 +81,9 @@ module _ (p : Plan) (bytes : ℕ) (capture table : List ℕ) where
   left-lost first vectors e h m r =
       left-same
       (λ c.
-      swap (any (vectors - first) (otherLater first bytes capture c)) (any (p .wide) (strayIn p bytes capture table c))
+      or-comm (any (vectors - first) (otherLater first bytes capture c)) (any (p .wide) (strayIn p bytes capture table c))
       ∙ ap₂ (λ (x y : ℕ). any (p .wide) (strayIn p bytes capture table c) || any (y - x) (otherLater x bytes capture c)) e h)
       (left-then m r)
-    where
-      swap : (a b : Bool) → (a || b) ≡ (b || a)
-      swap true true = refl
-      swap true false = refl
-      swap false true = refl
-      swap false false = refl
 
 -- one later vector more: no net changes there, so no reading may
 module _ (first bytes : ℕ) (capture table : List ℕ) where
@@ -135,21 +103,7 @@ module _ (first bytes : ℕ) (capture table : List ℕ) where
       Left (λ c. any u (otherLater first bytes capture c)) before n between →
       Left (strayAt capture ((first + u) * bytes) (u * bytes) none table) between n after →
       Left (λ c. any (u + 1) (otherLater first bytes capture c)) before n after
-  unfolding any
-  left-later u none z m r =
-      rw (add-one u)
-      (left-same (λ c. ap (λ (x : Bool). x || any u (otherLater first bytes capture c)) (other-of u c none z)) (left-then m r))
-
-pub left-no-later : (first bytes : ℕ) (capture before : List ℕ) (n : ℕ) → Left (λ c. any 0 (otherLater first bytes capture c)) before n before
-unfolding any
-left-no-later first bytes capture before n = left-all (λ c. refl)
-
-pub left-laters :
-    {before after : List ℕ} {n : ℕ} (first bytes : ℕ) (capture : List ℕ) (u more : ℕ) →
-    Left (λ c. any u (otherLater first bytes capture c)) before n after →
-    u ≡ more →
-    Left (λ c. any more (otherLater first bytes capture c)) before n after
-left-laters first bytes capture u more m e = left-same (λ c. ap (λ (x : ℕ). any x (otherLater first bytes capture c)) e) m
+  left-later u none z m r = left-one (otherLater first bytes capture) u m (left-same (λ c. other-of u c none z) r)
 
 -- where the vectors of a part stand
 module _ (p : Plan) (capture : List ℕ) (bytes : ℕ) (w : Rowed p capture bytes) (i extra t : ℕ) (h : Part p i extra t) (some : 0 < extra) where

@@ -1,8 +1,8 @@
 -- Byte by byte: the cells that are left after two rows.
 use Prim.Native.Nat.{ℕ, zero, suc, _+_, _*_, _/_, _%_, _^_, _≤_, _<_}
-use mathlib.Core.Path.{_≡_, refl, sym, _∙_, ap, subst}
+use mathlib.Core.Path.{_≡_, refl, sym, _∙_, ap}
 use mathlib.Core.Logic.{⊎-elim}
-use mathlib.Core.Bool.{Bool, true, false, not, _&&_, _||_, true≢false}
+use mathlib.Core.Bool.{Bool, true, false, not, _&&_, _||_, and-true, true≢false}
 use mathlib.Core.List.{List}
 use native.Mathlib.Numerals.{add-one}
 use native.Mathlib.Omega.{arith}
@@ -10,7 +10,7 @@ use lib.Bits.{bitAnd, bitXor}
 use lib.ListN.{length, getD, drop, set, length-set}
 use lib.Seq.{getD-set-same, getD-set-other, set-getD, getD-drop}
 use Rattle.base.specs.Digits.{bit, word}
-use Rattle.base.specs.Tests.{digit}
+use Rattle.base.specs.Tests.{any, digit}
 use Rattle.base.proofs.DigitLaws.{word-same, word-bits, bit-word}
 use Rattle.base.proofs.BoolLaws.{order}
 use Rattle.base.proofs.WordLaws.{bit-and, bit-xor, bit-zero}
@@ -28,17 +28,6 @@ pub stray-some : (changing : ℕ → Bool) (entry n : ℕ) (h : Bool) → entry 
 unfolding stray
 stray-some changing zero n h e q = absurd (omega arith)
 stray-some changing (suc m) n h e q = let s : m ≡ n = omega arith in rw s (ap not q)
-
--- a digit that is left and alike, and one that is left and differs
-pub alike : (a b s : Bool) → true ≡ a → false ≡ b → true ≡ (a && not (b && s))
-alike true true s e f = absurd (true≢false (sym f))
-alike true false s e f = refl
-alike false b s e f = absurd (true≢false e)
-
-pub differs : (a b s r : Bool) → true ≡ a → true ≡ b → r ≡ s → not r ≡ (a && not (b && s))
-differs true true s r e f h = ap not h
-differs true false s r e f h = absurd (true≢false f)
-differs false b s r e f h = absurd (true≢false e)
 
 -- where no digit is both left and unlike, all stay
 all-stay :
@@ -75,16 +64,6 @@ word-next i kept r f s k e h = rw (add-one i) (h ∙ rw (k, e))
 pub word-start : (f : ℕ → Bool) → 0 ≡ word 0 f
 unfolding word
 word-start f = refl
-
-pub stays-at :
-    (left unlike i : ℕ) (changing : ℕ → Bool) (entries : List ℕ) (r : Bool) →
-    r ≡ (bit left i && not (bit unlike i && stray changing (getD entries i 0))) →
-    r ≡ staying left unlike changing entries i
-unfolding staying
-stays-at left unlike i changing entries r e = e
-
-pub digits-all : (i kept : ℕ) (f : ℕ → Bool) → kept ≡ word i f → i ≡ 8 → kept ≡ word 8 f
-digits-all i kept f e h = e ∙ ap (λ (k : ℕ). word k f) h
 
 -- a byte more
 pub left-none : {lost : ℕ → Bool} (before : List ℕ) → Left lost before 0 before
@@ -126,9 +105,17 @@ module _
       }
 
 -- what is lost in one row and another, and cells that are lost alike
-pub left-then : {f g : ℕ → Bool} {before between after : List ℕ} {n : ℕ} → Left f before n between → Left g between n after → Left (λ c. g c || f c) before n after
-left-then {f} {g} {before} {after = after} m k =
-    record { long = k .long ∙ m .long; done = λ c l. k .done c l ∙ ap (λ (a : Bool). a && not (g c)) (m .done c l) ∙ both (rowBit before 0 c) (f c) (g c); rest = λ c l. k .rest c l ∙ m .rest c l }
+pub left-then :
+    {f g : ℕ → Bool} {before between after : List ℕ} {n : ℕ} →
+    Left f before n between →
+    Left g between n after →
+    Left (λ c. g c || f c) before n after
+left-then {f} {g} {before} m k =
+    record {
+      long = k .long ∙ m .long;
+      done = λ c l. k .done c l ∙ rw (m .done c l) (both (rowBit before 0 c) (f c) (g c));
+      rest = λ c l. k .rest c l ∙ m .rest c l;
+    }
   where
     both : (a x y : Bool) → ((a && not x) && not y) ≡ (a && not (y || x))
     both true true true = refl
@@ -137,20 +124,25 @@ left-then {f} {g} {before} {after = after} m k =
     both true false false = refl
     both false x y = refl
 
+pub left-all : {f : ℕ → Bool} {before : List ℕ} {n : ℕ} → ((c : ℕ) → f c ≡ false) → Left f before n before
+left-all h = record { long = refl; done = λ c l. rw (h c) (sym (and-true _)); rest = λ c l. refl }
+
+-- of what a test finds of a cell below i, one more, and none at first
+pub left-zero : (f : ℕ → ℕ → Bool) (before : List ℕ) (n : ℕ) → Left (λ c. any 0 (f c)) before n before
+unfolding any
+left-zero f before n = left-all (λ c. refl)
+
+pub left-one :
+    {before between after : List ℕ} {n : ℕ} (f : ℕ → ℕ → Bool) (i : ℕ) →
+    Left (λ c. any i (f c)) before n between →
+    Left (λ c. f c i) between n after →
+    Left (λ c. any (i + 1) (f c)) before n after
+unfolding any
+left-one f i m r = rw (add-one i) (left-then m r)
+
 pub left-same : {f g : ℕ → Bool} {before after : List ℕ} {n : ℕ} → ((c : ℕ) → f c ≡ g c) → Left f before n after → Left g before n after
 left-same {before = before} h m =
     record { long = m .long; done = λ c l. m .done c l ∙ ap (λ (a : Bool). rowBit before 0 c && not a) (h c); rest = m .rest }
-
-pub left-all : {f : ℕ → Bool} {before : List ℕ} {n : ℕ} → ((c : ℕ) → f c ≡ false) → Left f before n before
-left-all {f} {before} h =
-    record { long = refl; done = λ c l. go (rowBit before 0 c) (f c) (h c); rest = λ c l. refl }
-  where
-    go : (a x : Bool) → x ≡ false → a ≡ (a && not x)
-    go true x e = rw e
-    go false x e = refl
-
-pub left-upto : {f : ℕ → Bool} {before after : List ℕ} {n m : ℕ} → Left f before n after → n ≡ m → Left f before m after
-left-upto {f} {before} {after} h e = subst (λ (x : ℕ). Left f before x after) e h
 
 -- the digits of the byte that `sift` gives
 sifted :
@@ -177,14 +169,6 @@ pub left-byte :
     Left (strayAt capture at other changing table) before (8 * (j + 1)) after
 left-byte capture table before between after at other j changing unlike m l u e =
     rw e (left-more _ before between j _ m l (sifted capture table between at other j _ unlike changing u refl))
-
-pub left-changing :
-    (capture table before after : List ℕ) (at other n : ℕ) (f g : ℕ → Bool) →
-    f ≡ g →
-    Left (strayAt capture at other f table) before n after →
-    Left (strayAt capture at other g table) before n after
-left-changing capture table before after at other n f g e m =
-    subst (λ (h : ℕ → Bool). Left (strayAt capture at other h table) before n after) e m
 
 -- what is lent stays as long
 pub still-lent : {lost : ℕ → Bool} {table before after : List ℕ} {bytes n : ℕ} → Lent bytes table before → Left lost before n after → Lent bytes table after

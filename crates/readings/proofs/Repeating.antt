@@ -2,7 +2,7 @@
 use Prim.Native.Nat.{ℕ, zero, suc, _+_, _*_, _-_, _/_, _%_, _^_, _≤_, _<_}
 use mathlib.Core.Path.{_≡_, refl, sym, _∙_, ap, ap₂}
 use mathlib.Core.Logic.{_⊎_, inl, inr, ⊎-elim}
-use mathlib.Core.Bool.{Bool, true, false, cond, not, xor, _&&_, _||_}
+use mathlib.Core.Bool.{Bool, true, false, cond, not, xor, _&&_, _||_, and-not-self}
 use mathlib.Core.List.{List}
 use native.Mathlib.Nat.{add-zero, one-mul, div-one, eq-or-lt-of-le, mul-le-mul-right}
 use native.Mathlib.Numerals.{add-one}
@@ -26,7 +26,7 @@ use Rattle.plan.specs.Plans.{basesFor, mix, Small, startOf}
 use Rattle.plan.proofs.StepLaws.{size, start-zero, step-base, extra-none}
 use Rattle.plan.proofs.RoundLaws as plan
 use Rattle.plan.proofs.RoundLaws.{round-below}
-use Rattle.readings.specs.Readings.{valueAt, offAt, readBelow, codeFrom, period, stray, strayAt, strayAfter, strayIn, otherLater, lost, Captured}
+use Rattle.readings.specs.Readings.{valueAt, offAt, readBelow, codeFrom, period, stray, strayAt, strayAfter, strayIn, otherLater, lost, Captured, Part}
 use Rattle.readings.proofs.CapturePlaces.{starts-none, starts-next, starts-end, part-below, part-value}
 use Rattle.readings.proofs.Decoding.{first-value}
 
@@ -59,9 +59,15 @@ base-value p i l =
     ap (λ (x : Step). vectorOf (basesFor p) x .value) (sym (step-base p (startOf p i) i 0 l (omega arith) refl))
 
 -- and the k-th vector of its part has those of the next at the lowest of the nets that change
-value-in : (p : Plan) (i k : ℕ) → i < size p → k ≤ insertedAfter (basesFor p) i → valueAt p (startOf p i + k) ≡ mix (k * p .limit) (basesFor p .value i) (basesFor p .value (suc i))
+value-in :
+    (p : Plan) (i k : ℕ) →
+    i < size p →
+    k ≤ insertedAfter (basesFor p) i →
+    valueAt p (startOf p i + k) ≡ mix (k * p .limit) (basesFor p .value i) (basesFor p .value (suc i))
 value-in p i k l h =
-    sym (part-value p i (insertedAfter (basesFor p) i) (startOf p i) k (basesFor p .value i) (basesFor p .value (suc i)) _ (record { below = l; extra-is = refl; start-is = refl }) (omega arith) refl (ap (basesFor p .value) (sym (add-one i))) refl)
+    let own : Part p i (insertedAfter (basesFor p) i) (startOf p i) = record { below = l; extra-is = refl; start-is = refl } in
+    let next = ap (basesFor p .value) (sym (add-one i)) in
+    sym (part-value p i _ _ k (basesFor p .value i) (basesFor p .value (suc i)) _ own (omega arith) refl next refl)
 
 -- a group later the base vectors have the same values, so as many vectors follow them, and the parts start as far apart
 base-repeats : (p : Plan) (i : ℕ) → basesFor p .value (p .wide + i) ≡ basesFor p .value i
@@ -100,7 +106,12 @@ value-repeats p u s l =
         (λ (q : p .wide ≤ i). q)
         (order i (p .wide))
 
-    at : (i j : ℕ) → p .wide + i < size p → j ≤ insertedAfter (basesFor p) (p .wide + i) → period p + u ≡ startOf p (p .wide + i) + j → valueAt p (period p + u) ≡ valueAt p u
+    at :
+        (i j : ℕ) →
+        p .wide + i < size p →
+        j ≤ insertedAfter (basesFor p) (p .wide + i) →
+        period p + u ≡ startOf p (p .wide + i) + j →
+        valueAt p (period p + u) ≡ valueAt p u
     at i j m h e =
         let q : u ≡ startOf p i + j = omega (arith, start-repeats p i m) in
         let x = extra-least p i in
@@ -110,7 +121,14 @@ value-repeats p u s l =
         ∙ sym (value-in p i j (omega arith) (omega arith))
         ∙ sym (ap (valueAt p) q)
 
-    go : (i : ℕ) → i < size p → (j : ℕ) → j ≤ insertedAfter (basesFor p) i → period p + u ≡ startOf p i + j → p .wide ≤ i → valueAt p (period p + u) ≡ valueAt p u
+    go :
+        (i : ℕ) →
+        i < size p →
+        (j : ℕ) →
+        j ≤ insertedAfter (basesFor p) i →
+        period p + u ≡ startOf p i + j →
+        p .wide ≤ i →
+        valueAt p (period p + u) ≡ valueAt p u
     go i m j h e w =
         let q : i ≡ p .wide + (i - p .wide) = omega arith in
         at (i - p .wide) j (omega arith) (rw q at h) (rw q at e)
@@ -132,17 +150,28 @@ bit-over x k a =
     let e : w / 2 ^ suc k ≡ w / 2 / 2 ^ k = sym (shr-shr w 1 k ∙ ap (λ (y : ℕ). w / 2 ^ y) (let f : 1 + k ≡ suc k = omega arith in f)) in
     ap (λ (y : ℕ). eqb (y % 2) 1) (e ∙ ap (λ (y : ℕ). y / 2 ^ k) (put-half x a))
 
-code-bits : (p : Plan) (bytes : ℕ) (capture : List ℕ) (c k j : ℕ) → j < k → bit (codeFrom p bytes capture k c 0) (k - suc j) ≡ rowBit capture (startOf p j * bytes) c
+code-bits :
+    (p : Plan) (bytes : ℕ) (capture : List ℕ) (c k j : ℕ) →
+    j < k →
+    bit (codeFrom p bytes capture k c 0) (k - suc j) ≡ rowBit capture (startOf p j * bytes) c
 unfolding codeFrom
 code-bits p bytes capture c zero j l = absurd (omega arith)
 code-bits p bytes capture c (suc k) j l =
+    let code : ℕ = codeFrom p bytes capture k c 0 in
+    let read : Bool = rowBit capture (startOf p k * bytes) c in
     ⊎-elim
-    (λ (q : j ≡ k). let z : suc k - suc j ≡ 0 = omega arith in rw (z, q) (bit-put (codeFrom p bytes capture k c 0) (rowBit capture (startOf p k * bytes) c)))
-    (λ (q : j < k). let z : suc k - suc j ≡ suc (k - suc j) = omega arith in rw z (bit-over (codeFrom p bytes capture k c 0) (k - suc j) (rowBit capture (startOf p k * bytes) c) ∙ code-bits p bytes capture c k j q))
+    (λ (q : j ≡ k). let z : suc k - suc j ≡ 0 = omega arith in rw (z, q) (bit-put code read))
+    (λ (q : j < k). let z : suc k - suc j ≡ suc (k - suc j) = omega arith in rw z (bit-over code (k - suc j) read ∙ code-bits p bytes capture c k j q))
     (below-suc l)
 
 -- a cell with net n's code reads the net's value in the first group's base vectors
-code-right : (p : Plan) (bytes : ℕ) (capture : List ℕ) (n c j : ℕ) → Small p → n < p .nets → codeFrom p bytes capture (p .wide) c 0 ≡ suc n → j < p .wide → rowBit capture (startOf p j * bytes) c ≡ valueAt p (startOf p j) n
+code-right :
+    (p : Plan) (bytes : ℕ) (capture : List ℕ) (n c j : ℕ) →
+    Small p →
+    n < p .nets →
+    codeFrom p bytes capture (p .wide) c 0 ≡ suc n →
+    j < p .wide →
+    rowBit capture (startOf p j * bytes) c ≡ valueAt p (startOf p j) n
 unfolding codeBit
 code-right p bytes capture n c j s m e l =
     sym (code-bits p bytes capture c (p .wide) j l)
@@ -200,7 +229,13 @@ module _ (r v a : ℕ → Bool) (old new : Bool) (extra : ℕ) (h : Once r v a o
 record Kept (p : Plan) (n : ℕ) (r : ℕ → Bool) : Type 0 where
   small : Small p
   first : (i : ℕ) → i < p .wide → r (startOf p i) ≡ valueAt p (startOf p i) n
-  follows : (i k : ℕ) → i < p .wide → 0 < insertedAfter (basesFor p) i → k ≤ insertedAfter (basesFor p) i → valueAt p (startOf p i + k) n ≡ valueAt p (startOf p i + suc k) n → r (startOf p i + k) ≡ r (startOf p i + suc k)
+  follows :
+      (i k : ℕ) →
+      i < p .wide →
+      0 < insertedAfter (basesFor p) i →
+      k ≤ insertedAfter (basesFor p) i →
+      valueAt p (startOf p i + k) n ≡ valueAt p (startOf p i + suc k) n →
+      r (startOf p i + k) ≡ r (startOf p i + suc k)
   later : (u : ℕ) → period p + u < length (stepsOf (basesFor p)) → r (period p + u) ≡ r u
 
 -- it is right in every vector
@@ -231,7 +266,11 @@ module _ (p : Plan) (n : ℕ) (r : ℕ → Bool) (g : Kept p n r) where
           let m = next-below p i z in
           let old : ℕ → Bool = basesFor p .value i in
           let new : ℕ → Bool = basesFor p .value (suc i) in
-          once-right (λ j. r (startOf p i + j)) (λ j. valueAt p (startOf p i + j) n) (λ j. among (j * p .limit) (unlike old new) n) (old n) (new n) (insertedAfter (basesFor p) i)
+          once-right
+          (λ j. r (startOf p i + j))
+          (λ j. valueAt p (startOf p i + j) n)
+          (λ j. among (j * p .limit) (unlike old new) n)
+          (old n) (new n) (insertedAfter (basesFor p) i)
           (record {
             values = λ j q. ap (λ (f : ℕ → Bool). f n) (value-in p i j (omega arith) q);
             ends = ap (λ (t : ℕ). valueAt p t n) (sym (grows p i)) ∙ ap (λ (f : ℕ → Bool). f n) (base-value p (suc i) m);
@@ -277,50 +316,75 @@ follow : (a b x y : Bool) → (xor a b && not (xor x y)) ≡ false → x ≡ y �
 follow a b x y h e = alike a b (fails-if (xor a b) (λ t. clashes (both t (ap not (not-other x y e))) h))
 
 followed : (a b x y : Bool) → a ≡ x → b ≡ y → (xor a b && not (xor x y)) ≡ false
-followed a b x y e h = rw (e, h) (go (xor x y))
-  where
-    go : (z : Bool) → (z && not z) ≡ false
-    go true = refl
-    go false = refl
+followed a b x y e h = rw (e, h) (and-not-self (xor x y))
 
 and-rest : (a b : Bool) → a ≡ true → (a && b) ≡ false → b ≡ false
 and-rest a b e h = fails-if b (λ t. clashes (both e t) h)
 
 -- a cell whose entry is net n's strays where its reading changes and the net does not
 module _ (p : Plan) (bytes : ℕ) (capture table : List ℕ) (n c : ℕ) (entry : getD table c 0 ≡ suc n) where
-  stray-is : (t : ℕ) → strayAfter p bytes capture table c t ≡ (xor (rowBit capture (t * bytes) c) (rowBit capture ((t + 1) * bytes) c) && not (xor (valueAt p t n) (valueAt p (t + 1) n)))
+  stray-is :
+      (t : ℕ) →
+      strayAfter p bytes capture table c t
+      ≡ (xor (rowBit capture (t * bytes) c) (rowBit capture ((t + 1) * bytes) c) && not (xor (valueAt p t n) (valueAt p (t + 1) n)))
   unfolding strayAfter strayAt stray
   stray-is t =
-      ap (λ (e : ℕ). xor (rowBit capture (t * bytes) c) (rowBit capture ((t + 1) * bytes) c) && stray (unlike (valueAt p t) (valueAt p (t + 1))) e) entry
+      let turned : Bool = xor (rowBit capture (t * bytes) c) (rowBit capture ((t + 1) * bytes) c) in
+      ap (λ (e : ℕ). turned && stray (unlike (valueAt p t) (valueAt p (t + 1))) e) entry
 
-  stray-not : (i k : ℕ) → strayIn p bytes capture table c i ≡ false → 0 < insertedAfter (basesFor p) i → k ≤ insertedAfter (basesFor p) i → valueAt p (startOf p i + k) n ≡ valueAt p (startOf p i + suc k) n → rowBit capture ((startOf p i + k) * bytes) c ≡ rowBit capture ((startOf p i + suc k) * bytes) c
+  stray-not :
+      (i k : ℕ) →
+      strayIn p bytes capture table c i ≡ false →
+      0 < insertedAfter (basesFor p) i →
+      k ≤ insertedAfter (basesFor p) i →
+      valueAt p (startOf p i + k) n ≡ valueAt p (startOf p i + suc k) n →
+      rowBit capture ((startOf p i + k) * bytes) c ≡ rowBit capture ((startOf p i + suc k) * bytes) c
   unfolding strayIn
   stray-not i k h z l e =
-      let t : startOf p i + k + 1 ≡ startOf p i + suc k = omega arith in
-      let none = and-rest (ltb 0 (insertedAfter (basesFor p) i)) _ (lt-ltb 0 (insertedAfter (basesFor p) i) z) h in
-      let one = any-none (1 + insertedAfter (basesFor p) i) (λ k. strayAfter p bytes capture table c (startOf p i + k)) none {i = k} (omega arith) in
-      follow _ _ (valueAt p (startOf p i + k) n) (valueAt p (startOf p i + k + 1) n) (sym (stray-is (startOf p i + k)) ∙ one) (e ∙ ap (λ (x : ℕ). valueAt p x n) (sym t))
+      let extra : ℕ = insertedAfter (basesFor p) i in
+      let at : ℕ = startOf p i + k in
+      let t : at + 1 ≡ startOf p i + suc k = omega arith in
+      let none = and-rest (ltb 0 extra) _ (lt-ltb 0 extra z) h in
+      let one = any-none (1 + extra) (λ k. strayAfter p bytes capture table c (startOf p i + k)) none {i = k} (omega arith) in
+      follow _ _ (valueAt p at n) (valueAt p (at + 1) n) (sym (stray-is at) ∙ one) (e ∙ ap (λ (x : ℕ). valueAt p x n) (sym t))
       ∙ ap (λ (x : ℕ). rowBit capture (x * bytes) c) t
 
-  not-stray : (i : ℕ) → i < size p → ((t : ℕ) → t < length (stepsOf (basesFor p)) → rowBit capture (t * bytes) c ≡ valueAt p t n) → strayIn p bytes capture table c i ≡ false
+  not-stray :
+      (i : ℕ) →
+      i < size p →
+      ((t : ℕ) → t < length (stepsOf (basesFor p)) → rowBit capture (t * bytes) c ≡ valueAt p t n) →
+      strayIn p bytes capture table c i ≡ false
   unfolding strayIn
   not-stray i l h =
-      fails-if (strayIn p bytes capture table c i) (λ e. clashes (right (ltb 0 (insertedAfter (basesFor p) i)) e) (none (ltb-true 0 (insertedAfter (basesFor p) i) (left (ltb 0 (insertedAfter (basesFor p) i)) _ e))))
+      let extra : ℕ = insertedAfter (basesFor p) i in
+      fails-if (strayIn p bytes capture table c i)
+      (λ e. clashes (right (ltb 0 extra) e) (none (ltb-true 0 extra (left (ltb 0 extra) _ e))))
     where
       none : 0 < insertedAfter (basesFor p) i → any (1 + insertedAfter (basesFor p) i) (λ k. strayAfter p bytes capture table c (startOf p i + k)) ≡ false
       none z =
           let m = next-below p i z in
           let b = part-below p (suc i) 0 (startOf p (suc i)) m refl (omega arith) in
           let g = grows p i in
-          none-any _ _ (λ k q. stray-is (startOf p i + k) ∙ followed _ _ _ _ (h (startOf p i + k) (omega arith)) (h (startOf p i + k + 1) (omega arith)))
+          none-any _ _ (λ k q. let at : ℕ = startOf p i + k in stray-is at ∙ followed _ _ _ _ (h at (omega arith)) (h (at + 1) (omega arith)))
 
 -- a cell that is not lost reads its net's own word in every vector
-pub left-reads : (p : Plan) (capture : List ℕ) (cells bytes : ℕ) → Captured p capture cells bytes → (table : List ℕ) (n c : ℕ) → n < p .nets → codeFrom p bytes capture (p .wide) c 0 ≡ suc n → getD table c 0 ≡ suc n → lost p bytes capture table c ≡ false → readBelow p bytes capture (length (stepsOf (basesFor p))) n c ≡ true
+pub left-reads :
+    (p : Plan) (capture : List ℕ) (cells bytes : ℕ) →
+    Captured p capture cells bytes →
+    (table : List ℕ) (n c : ℕ) →
+    n < p .nets →
+    codeFrom p bytes capture (p .wide) c 0 ≡ suc n →
+    getD table c 0 ≡ suc n →
+    lost p bytes capture table c ≡ false →
+    readBelow p bytes capture (length (stepsOf (basesFor p))) n c ≡ true
 unfolding lost otherLater readBelow offAt
 left-reads p capture cells bytes k table n c m code entry l =
     all-from (length (stepsOf (basesFor p))) _ (λ t b. ap not (not-other _ _ (right-at t b)))
   where
-    clean : (any (p .wide) (strayIn p bytes capture table c) ≡ false) × (any (length (stepsOf (basesFor p)) - period p) (otherLater (period p) bytes capture c) ≡ false)
+    later : ℕ
+    later = length (stepsOf (basesFor p)) - period p
+
+    clean : (any (p .wide) (strayIn p bytes capture table c) ≡ false) × (any later (otherLater (period p) bytes capture c) ≡ false)
     clean = or-neither (any (p .wide) (strayIn p bytes capture table c)) l
 
     right-at : (t : ℕ) → t < length (stepsOf (basesFor p)) → rowBit capture (t * bytes) c ≡ valueAt p t n
@@ -329,12 +393,19 @@ left-reads p capture cells bytes k table n c m code entry l =
         (record {
           small = k .small;
           first = λ i q. code-right p bytes capture n c i (k .small) m code q;
-          follows = λ i j q z h e. stray-not p bytes capture table n c entry i j (any-none (p .wide) (strayIn p bytes capture table c) (clean .0) q) z h e;
-          later = λ u q. alike _ _ (any-none (length (stepsOf (basesFor p)) - period p) (otherLater (period p) bytes capture c) (clean .1) {i = u} (omega arith));
+          follows = λ i j q. stray-not p bytes capture table n c entry i j (any-none (p .wide) (strayIn p bytes capture table c) (clean .0) q);
+          later = λ u q. alike _ _ (any-none later (otherLater (period p) bytes capture c) (clean .1) {i = u} (omega arith));
         })
 
 -- a cell that reads its net's own word in every vector is not lost
-pub reads-left : (p : Plan) (capture : List ℕ) (cells bytes : ℕ) → Captured p capture cells bytes → (table : List ℕ) (n c : ℕ) → n < p .nets → getD table c 0 ≡ suc n → readBelow p bytes capture (length (stepsOf (basesFor p))) n c ≡ true → lost p bytes capture table c ≡ false
+pub reads-left :
+    (p : Plan) (capture : List ℕ) (cells bytes : ℕ) →
+    Captured p capture cells bytes →
+    (table : List ℕ) (n c : ℕ) →
+    n < p .nets →
+    getD table c 0 ≡ suc n →
+    readBelow p bytes capture (length (stepsOf (basesFor p))) n c ≡ true →
+    lost p bytes capture table c ≡ false
 unfolding lost otherLater readBelow offAt
 reads-left p capture cells bytes k table n c m entry h = neither stays repeats
   where
@@ -349,4 +420,7 @@ reads-left p capture cells bytes k table n c m entry h = neither stays repeats
 
     repeats : any (length (stepsOf (basesFor p)) - period p) (otherLater (period p) bytes capture c) ≡ false
     repeats =
-        none-any _ _ (λ u q. not-other _ _ (right-at (period p + u) (omega arith) ∙ ap (λ (f : ℕ → Bool). f n) (value-repeats p u (k .small) (omega arith)) ∙ sym (right-at u (omega arith))))
+        none-any _ _
+        (λ u q.
+        let same = ap (λ (f : ℕ → Bool). f n) (value-repeats p u (k .small) (omega arith)) in
+        not-other _ _ (right-at (period p + u) (omega arith) ∙ same ∙ sym (right-at u (omega arith))))

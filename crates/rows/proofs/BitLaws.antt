@@ -52,18 +52,31 @@ bit-is b v c (ThreeState k n) = refl
 bit-is b v c (TwoState n) = refl
 
 -- the cells below C whose bit is 1 make the vector's row
-row-is : (b : Board) (v : Vector) (size : ℕ) (on nets : ℕ → Bool) → size ≡ b .size → on ≡ onIn b (v .group) → nets ≡ v .value → rowOf size (upTo size (bitAt b on nets)) ≡ vectorRow b v
+row-is :
+    (b : Board) (v : Vector) (size : ℕ) (on nets : ℕ → Bool) →
+    size ≡ b .size →
+    on ≡ onIn b (v .group) →
+    nets ≡ v .value →
+    rowOf size (upTo size (bitAt b on nets)) ≡ vectorRow b v
 unfolding vectorRow upTo bitAt
 row-is b v size on nets s e f =
     row-cut size (bitAt b on nets)
-    ∙ row-same size (bitAt b on nets) (λ c. cellBit b v c (b .cell c)) (λ c l. ap (λ (g : ℕ → Bool). bitOf (g c) nets (b .cell c)) e ∙ ap (λ (g : ℕ → Bool). bitOf (onIn b (v .group) c) g (b .cell c)) f ∙ bit-is b v c (b .cell c))
+    ∙ row-same size (bitAt b on nets) (λ c. cellBit b v c (b .cell c)) (λ c l. rw (e, f) (bit-is b v c (b .cell c)))
     ∙ ap (λ (x : ℕ). rowOf x (λ c. cellBit b v c (b .cell c))) s
 
 pub own-cells : (size : ℕ) (f : ℕ → Bool) → Cells size (upTo size f)
 unfolding upTo
 own-cells size f = record { none = λ c l. rw (le-ltb c size l) }
 
-pub vector-written : (b : Board) (v : Vector) (size g : ℕ) (on nets row : ℕ → Bool) (before after : List ℕ) → size ≡ b .size → g ≡ v .group → on ≡ onIn b g → nets ≡ v .value → row ≡ upTo size (bitAt b on nets) → after ≡ placed 0 (rowOf size row) before → after ≡ over (vectorRow b v) before
+pub vector-written :
+    (b : Board) (v : Vector) (size g : ℕ) (on nets row : ℕ → Bool) (before after : List ℕ) →
+    size ≡ b .size →
+    g ≡ v .group →
+    on ≡ onIn b g →
+    nets ≡ v .value →
+    row ≡ upTo size (bitAt b on nets) →
+    after ≡ placed 0 (rowOf size row) before →
+    after ≡ over (vectorRow b v) before
 vector-written b v size g on nets row before after s e o n r w =
     w
     ∙ over-is (rowOf size row) before

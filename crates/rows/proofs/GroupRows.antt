@@ -42,25 +42,6 @@ pub written-none : (b : Board) (before : List ℕ) → Written b 0 before before
 unfolding groupRows
 written-none b before = record { long = refl; so-far = refl }
 
-pub written-more : (b : Board) (g at size : ℕ) (on : ℕ → Bool) (before after more : List ℕ) → Written b g before after → (g + 1) * rowBytes (b .size) ≤ length before → at ≡ g * rowBytes (b .size) → size ≡ b .size → on ≡ onIn b (g + 1) → more ≡ placed at (rowOf size on) after → Written b (g + 1) before more
-unfolding groupRows groupRow
-written-more b g at size on before after more w room a s o m =
-    rw (add-one g)
-    (record { long = ap length all ∙ length-over (groupRows b (suc g)) before (omega (arith, fits, length-rows b (suc g))); so-far = all })
-  where
-    fits : suc g * rowBytes (b .size) ≤ length before
-    fits = rw (add-one g) at room
-
-    row : rowOf size on ≡ groupRow b (suc g)
-    row = ap₂ rowOf s (rw (add-one g) at o)
-
-    all : more ≡ over (groupRows b g ++ groupRow b (suc g)) before
-    all =
-        m
-        ∙ ap₂ (λ (x : ℕ) (r : List ℕ). placed x r after) (a ∙ sym (length-rows b g)) row
-        ∙ ap (placed (length (groupRows b g)) (groupRow b (suc g))) (w .so-far)
-        ∙ over-more (groupRows b g) (groupRow b (suc g)) before (omega (arith, fits, length-rows b g, row-length (b .size) (onIn b (suc g)), suc-mul g (rowBytes (b .size))))
-
 -- the group after g, and those up to it
 pub on-next : (b : Board) (g : ℕ) (on : ℕ → Bool) → on ≡ listed (selected b (g + 1) (earlier b g)) → on ≡ onIn b (g + 1)
 on-next b g on e = group-is b (g + 1) on (omega arith) (rw (add-sub-cancel g 1) e)
@@ -83,9 +64,40 @@ pub row-fits : (g groups bytes row at long : ℕ) → g < groups → bytes ≡ r
 row-fits g groups bytes row at long l e h a =
     omega (arith, rows-fit g groups row long l h, suc-mul g row, a ∙ ap (λ (x : ℕ). g * x) e)
 
-pub written-next : (b : Board) (g groups bytes at size : ℕ) (on : ℕ → Bool) (before after more : List ℕ) → Written b g before after → g < groups → bytes ≡ rowBytes size → groups * rowBytes size ≤ length before → at ≡ g * bytes → size ≡ b .size → on ≡ onIn b (g + 1) → more ≡ placed at (rowOf size on) after → Written b (g + 1) before more
+pub written-next :
+    (b : Board) (g groups bytes at size : ℕ) (on : ℕ → Bool) (before after more : List ℕ) →
+    Written b g before after →
+    g < groups →
+    bytes ≡ rowBytes size →
+    groups * rowBytes size ≤ length before →
+    at ≡ g * bytes →
+    size ≡ b .size →
+    on ≡ onIn b (g + 1) →
+    more ≡ placed at (rowOf size on) after →
+    Written b (g + 1) before more
+unfolding groupRows groupRow
 written-next b g groups bytes at size on before after more w l e h a s o m =
-    written-more b g at size on before after more w (rw (add-one g, ← s) (rows-fit g groups (rowBytes size) (length before) l h)) (a ∙ ap (λ (x : ℕ). g * x) (e ∙ ap rowBytes s)) s o m
+    rw (add-one g)
+    (record { long = ap length all ∙ length-over (groupRows b (suc g)) before (omega (arith, fits, length-rows b (suc g))); so-far = all })
+  where
+    fits : suc g * rowBytes (b .size) ≤ length before
+    fits = rw (← s) (rows-fit g groups (rowBytes size) (length before) l h)
+
+    row : rowOf size on ≡ groupRow b (suc g)
+    row = ap₂ rowOf s (rw (add-one g) at o)
+
+    start : at ≡ length (groupRows b g)
+    start = a ∙ ap (λ (x : ℕ). g * x) (e ∙ ap rowBytes s) ∙ sym (length-rows b g)
+
+    room : length (groupRows b g) + length (groupRow b (suc g)) ≤ length before
+    room = omega (arith, fits, length-rows b g, row-length (b .size) (onIn b (suc g)), suc-mul g (rowBytes (b .size)))
+
+    all : more ≡ over (groupRows b g ++ groupRow b (suc g)) before
+    all =
+        m
+        ∙ ap₂ (λ (x : ℕ) (r : List ℕ). placed x r after) start row
+        ∙ ap (placed (length (groupRows b g)) (groupRow b (suc g))) (w .so-far)
+        ∙ over-more (groupRows b g) (groupRow b (suc g)) before room
 
 pub written-all : {b : Board} {g groups : ℕ} {before after : List ℕ} → Written b g before after → g ≡ groups → after ≡ over (groupRows b groups) before
 written-all {b} {before = before} w e = w .so-far ∙ ap (λ (x : ℕ). over (groupRows b x) before) e

@@ -35,13 +35,6 @@ returns c =
     let other = reader-is _ _ _ _ (a .before .cell-at .ensures) (a .reader-of .ensures) (c .enum-told .given .1) in
     grown-none _ _ _ _ (entry a .pre .1 .1) other
 
-shared-slice-read-entry : tie.Need-shared-slice-read-entry
-shared-slice-read-entry c =
-    let p = entry (asked (c .before .before)) .pre in
-    let l = p .1 .0 in
-    let r = p .0 .long in
-    omega arith
-
 returns-2 : tie.Need-returns-2
 returns-2 c =
     let w = c .before .before .before .before in
@@ -67,16 +60,10 @@ add-reading-spec =
     tie.close
     (tie.spec
     (λ c κs. let p = c .before .before .pre in record { checked = p .0 .checked; below = p .1 .0 })
-    (λ c κs. search needs)
-    (λ c. search needs)
-    (λ c. search needs)
-    returns
-    (λ c. search needs)
-    (λ c. search needs)
-    shared-slice-read-entry
+    (λ c κs. search needs) (λ c. search needs) (λ c. search needs) returns (λ c. search needs) (λ c. search needs)
+    (λ c. let p = entry (asked (c .before .before)) .pre in let l = p .1 .0 in let r = p .0 .long in omega arith)
     (λ c κs. fits (c .before .before))
     (λ c. let f = fits (told (c .before .before .before)) in omega arith)
     returns-2
     (λ c κs. fits (told (c .before .before .before .before)))
-    with-read-requires
-    returns-3)
+    with-read-requires returns-3)

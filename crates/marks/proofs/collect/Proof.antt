@@ -44,14 +44,8 @@ returns c =
 pub collect-spec : {M : Type 1} → statement M
 collect-spec =
     tie.close
-    (tie.spec
-    Inv-loop
-    μ-loop
-    (λ c κs. search needs)
+    (tie.spec Inv-loop μ-loop (λ c κs. search needs)
     (λ c. (omega arith, c .untested .ensures _ _))
-    cast-t7
-    add-reading-requires
-    (λ c. omega arith)
-    (λ c. omega arith)
+    cast-t7 add-reading-requires (λ c. omega arith) (λ c. omega arith)
     (λ c. (omega arith, c .add-reading .ensures))
     returns)

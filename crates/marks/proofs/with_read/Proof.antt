@@ -5,11 +5,10 @@ use Rattle.marks.proofs.TestedLaws.{read-none, read-one}
 use Rattle.marks.proofs.with_read.Statement.{statement}
 use Rattle.marks.proofs.with_read.Tie as tie
 
-returns : tie.Need-returns
-returns c = read-none _ _ (c .if1 .taken)
-
-returns-2 : tie.Need-returns-2
-returns-2 c = c .with .ensures ∙ read-one _ _ (c .before .if1 .left)
-
 pub with-read-spec : {M : Type 1} → statement M
-with-read-spec = tie.close (tie.spec returns (λ c. search needs) (λ c κs. search needs) returns-2)
+with-read-spec =
+    tie.close
+    (tie.spec
+    (λ c. read-none _ _ (c .if1 .taken))
+    (λ c. search needs) (λ c κs. search needs)
+    (λ c. c .with .ensures ∙ read-one _ _ (c .before .if1 .left)))

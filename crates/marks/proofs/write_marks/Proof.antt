@@ -15,20 +15,11 @@ Inv-loop out₀ nets tests counts₀ n₀ out counts n = (n ≤ nets) × Marked 
 abbrev μ-loop : tie.MeasureT-loop
 μ-loop out₀ nets tests counts₀ n₀ out counts n = nets - n
 
-slice-write-out : tie.Need-slice-write-out Inv-loop μ-loop
-slice-write-out c =
-    let m = marked-long _ _ (c .before .before .before .loop .inv .1) (omega arith) in
-    omega arith
-
-count-byte-requires : tie.Need-count-byte-requires Inv-loop μ-loop
-count-byte-requires c κs = marked-few _ _ (c .before .before .before .loop .inv .1) (omega arith)
-
 loop-again : tie.Need-loop-again Inv-loop μ-loop
 loop-again c =
-    (omega arith, marked-more _ _ (c .before .before .before .before .loop .inv .1) (omega arith) _ _ (c .before .byte-of .ensures ∙ ap byteOf (c .before .before .mark-of .ensures)) (c .count-byte .ensures))
-
-same-length : tie.Need-same-length Inv-loop μ-loop
-same-length c = marked-long _ _ (c .before .loop .inv .1) (omega arith)
+    let b = c .before in
+    let byte = b .byte-of .ensures ∙ ap byteOf (b .before .mark-of .ensures) in
+    (omega arith, marked-more _ _ (b .before .before .before .loop .inv .1) (omega arith) _ _ byte (c .count-byte .ensures))
 
 returns : tie.Need-returns Inv-loop μ-loop
 returns c =
@@ -42,13 +33,9 @@ write-marks-spec =
     tie.close
     (tie.spec Inv-loop μ-loop
     (λ c. (omega arith, marked-none _ _))
-    (λ c. omega arith)
-    (λ c κs. omega arith)
-    (λ c κs. search needs)
-    slice-write-out
-    count-byte-requires
-    (λ c. omega arith)
-    (λ c. omega arith)
-    loop-again
-    same-length
+    (λ c. omega arith) (λ c κs. omega arith) (λ c κs. search needs)
+    (λ c. let m = marked-long _ _ (c .before .before .before .loop .inv .1) (omega arith) in omega arith)
+    (λ c κs. marked-few _ _ (c .before .before .before .loop .inv .1) (omega arith))
+    (λ c. omega arith) (λ c. omega arith) loop-again
+    (λ c. marked-long _ _ (c .before .loop .inv .1) (omega arith))
     returns)

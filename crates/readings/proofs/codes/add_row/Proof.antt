@@ -21,9 +21,6 @@ entry d = d .before .before .before .before
 abbrev begun : tie.After-slice-known2 Inv-loop μ-loop → tie.In-loop Inv-loop μ-loop
 begun d = d .before .before
 
-add-digit-requires : tie.Need-add-digit-requires Inv-loop μ-loop
-add-digit-requires c κs = let d = begun c in entry-low (d .before .loop .inv) _ (entry d .pre .1) (d .loop-test .taken)
-
 loop-again : tie.Need-loop-again Inv-loop μ-loop
 loop-again c =
     let d = begun (c .before) in
@@ -32,19 +29,15 @@ loop-again c =
 pub add-row-spec : {M : Type 1} → statement M
 add-row-spec =
     tie.close
-    (tie.spec
-    Inv-loop
-    μ-loop
+    (tie.spec Inv-loop μ-loop
     (λ c. mapping-none (c .before .before .pre .1 .long))
     (λ c. let few = entry c .pre .0 .few in let t = c .loop-test .taken in omega arith)
     (λ c κs. byte-inside _ _ _ _ (entry c .pre .0) (c .loop-test .taken))
     (λ c. search needs)
     (λ c. let d = begun c in entry-in (d .before .loop .inv) (d .loop-test .taken))
-    add-digit-requires
+    (λ c κs. let d = begun c in entry-low (d .before .loop .inv) _ (entry d .pre .1) (d .loop-test .taken))
     (λ c. search needs)
     (λ c. let d = begun (c .before) in entry-in (d .before .loop .inv) (d .loop-test .taken))
-    (λ c. omega arith)
-    (λ c. omega arith)
-    loop-again
+    (λ c. omega arith) (λ c. omega arith) loop-again
     (λ c. mapping-long (c .before .loop .inv))
     (λ c. mapping-all (c .before .loop .inv) (c .loop-test .left)))

@@ -17,17 +17,13 @@ abbrev μ-loop : tie.MeasureT-loop
 pub own-codes-spec : {M : Type 1} → statement M
 own-codes-spec =
     tie.close
-    (tie.spec
-    Inv-loop
-    μ-loop
+    (tie.spec Inv-loop μ-loop
     (λ c. mapping-none (c .before .pre))
     (λ c. search needs)
     (λ c. let d = c .before in entry-in (d .before .loop .inv) (d .loop-test .taken))
-    (λ c κs. search needs)
-    (λ c. search needs)
+    (λ c κs. search needs) (λ c. search needs)
     (λ c. let d = c .before .before in entry-in (d .before .loop .inv) (d .loop-test .taken))
-    (λ c. omega arith)
-    (λ c. omega arith)
+    (λ c. omega arith) (λ c. omega arith)
     (λ c. let d = c .before .before in mapping-more (d .before .loop .inv) _ (d .loop-test .taken) (c .own-code .ensures))
     (λ c. mapping-long (c .before .loop .inv))
     (λ c. mapping-all (c .before .loop .inv) (c .loop-test .left)))

@@ -10,9 +10,9 @@ use Rattle.plan.specs.Plans.{basesFor, startOf}
 use Rattle.plan.proofs.StepLaws.{extra-low}
 use Rattle.plan.proofs.RoundLaws.{round-below}
 use Rattle.readings.specs.Readings.{codeFrom, mostHalf, Mapped}
-use Rattle.readings.proofs.MappedLaws.{mapped-id, mapped-same, mapped-low}
+use Rattle.readings.proofs.MappedLaws.{mapped-id, mapped-low}
 use Rattle.readings.proofs.CapturePlaces.{starts-none, starts-next, rowed, row-scanned, place-low}
-use Rattle.readings.proofs.Decoding.{first-in, code-low, code-none, code-more, code-all}
+use Rattle.readings.proofs.Decoding.{first-in, code-low, code-more}
 use Rattle.readings.proofs.codes.read_codes.Statement.{statement}
 use Rattle.readings.proofs.codes.read_codes.Tie as tie
 
@@ -24,7 +24,8 @@ abbrev μ-loop : tie.MeasureT-loop
 μ-loop capture plan cells bytes table₀ t₀ j₀ table t j = plan .wide - j
 
 loop-holds : tie.Need-loop-holds Inv-loop μ-loop
-loop-holds c = (omega arith, starts-none _, mapped-same (code-none _ _ _) (mapped-id _ _))
+unfolding codeFrom
+loop-holds c = (omega arith, starts-none _, mapped-id _ _)
 
 -- the places: the entry as seen from the loop, the loop from a round, and a round's beginning from its end
 abbrev entry : tie.At-loop Inv-loop μ-loop → tie.Start Inv-loop μ-loop
@@ -39,11 +40,6 @@ round d = d .before .before
 -- vector t is one of the plan's
 inside : (d : tie.Then1 Inv-loop μ-loop) → round d .loop .t < length (stepsOf (basesFor (entry (round d) .args .plan)))
 inside d = first-in _ _ _ (entry (round d) .pre .0 .small) (d .if1 .taken) (round d .loop .inv .1)
-
-mul-add-row : tie.Need-mul-add-row Inv-loop μ-loop
-mul-add-row c =
-    let m = place-low _ _ _ (rowed _ _ _ _ (entry (round c) .pre .0)) _ (inside c) in
-    omega arith
 
 add-row-requires : tie.Need-add-row-requires Inv-loop μ-loop
 add-row-requires c κs =
@@ -68,46 +64,31 @@ few d =
     let e = d .extra-after .ensures in
     omega (arith, extra-low _ (entry k .pre .0 .small) (k .loop .j))
 
-add-t : tie.Need-add-t Inv-loop μ-loop
-add-t c = let f = few c in omega arith
-
-add-t-2 : tie.Need-add-t-2 Inv-loop μ-loop
-add-t-2 c =
-    let f = few c in
-    let t = inside (begun c) in
-    let v = entry (round (begun c)) .pre .0 .vectors in
-    omega arith
-
-add-j : tie.Need-add-j Inv-loop μ-loop
-add-j c =
-    let t = begun c .if1 .taken in
-    let n = entry (round (begun c)) .pre .0 .narrow in
-    omega arith
-
 loop-again : tie.Need-loop-again Inv-loop μ-loop
 loop-again c =
     let inv = round (begun c) .loop .inv in
     let t = begun c .if1 .taken in
-    (omega arith, starts-next _ _ _ _ (inv .1) (c .extra-after .ensures), code-more _ _ _ _ _ (inv .1) (inv .2) (c .before .before .before .add-row .ensures))
+    let next = starts-next _ _ _ _ (inv .1) (c .extra-after .ensures) in
+    (omega arith, next, code-more _ _ _ _ _ (inv .1) (inv .2) (c .before .before .before .add-row .ensures))
 
 returns : tie.Need-returns Inv-loop μ-loop
 returns c =
-    let inv = c .before .before .loop .inv in
+    let d = c .before .before in
+    let inv = d .loop .inv in
     let l = inv .0 in
     let t = c .if1 .left in
-    code-all _ _ _ _ _ (inv .2) (omega arith)
+    let e : d .loop .j ≡ entry d .args .plan .wide = omega arith in
+    rw e at (inv .2)
 
 pub read-codes-spec : {M : Type 1} → statement M
 read-codes-spec =
     tie.close
-    (tie.spec Inv-loop μ-loop
-    loop-holds
-    mul-add-row
-    add-row-requires
-    extra-after-requires
-    add-t
-    add-t-2
-    add-j
+    (tie.spec Inv-loop μ-loop loop-holds
+    (λ c. let m = place-low _ _ _ (rowed _ _ _ _ (entry (round c) .pre .0)) _ (inside c) in omega arith)
+    add-row-requires extra-after-requires
+    (λ c. let f = few c in omega arith)
+    (λ c. let f = few c in let t = inside (begun c) in let v = entry (round (begun c)) .pre .0 .vectors in omega arith)
+    (λ c. let t = begun c .if1 .taken in let n = entry (round (begun c)) .pre .0 .narrow in omega arith)
     (λ c. omega (arith, begun c .if1 .taken))
     loop-again
     (λ c. c .before .before .loop .inv .2 .long)

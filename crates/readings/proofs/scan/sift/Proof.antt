@@ -8,7 +8,7 @@ use Rattle.base.specs.Digits.{word}
 use Rattle.base.proofs.DigitLaws.{word-lt}
 use Rattle.words.specs.Sets.{member}
 use Rattle.readings.specs.Readings.{staying}
-use Rattle.readings.proofs.LeftLaws.{word-next, word-start, stays-at, digits-all}
+use Rattle.readings.proofs.LeftLaws.{word-next, word-start}
 use Rattle.readings.proofs.scan.sift.Statement.{statement}
 use Rattle.readings.proofs.scan.sift.Tie as tie
 
@@ -32,12 +32,6 @@ kept s =
     let a = s .args in
     staying (a .left) (a .unlike) (member (a .changing .words)) (a .entries .now)
 
-stays-requires : tie.Need-stays-requires Inv-loop μ-loop
-stays-requires c κs =
-    let d = c .before in
-    let t = d .loop-test .taken in
-    (t, entry (d .before) .pre .entries-bounded _ (omega arith))
-
 with-digit-requires : tie.Need-with-digit-requires Inv-loop μ-loop
 with-digit-requires c κs =
     let d = begun c in
@@ -46,30 +40,29 @@ with-digit-requires c κs =
     (d .loop-test .taken, omega (arith, l .loop .inv .1))
 
 loop-again : tie.Need-loop-again Inv-loop μ-loop
+unfolding staying
 loop-again c =
     let d = begun (c .before) in
     let t = d .loop-test .taken in
-    (omega arith, word-next _ _ _ _ _ (d .before .loop .inv .1) (stays-at _ _ _ _ _ _ (c .before .stays .ensures)) (c .with-digit .ensures))
+    (omega arith, word-next _ _ _ _ _ (d .before .loop .inv .1) (c .before .stays .ensures) (c .with-digit .ensures))
 
 returns : tie.Need-returns Inv-loop μ-loop
 returns c =
     let inv = c .before .loop .inv in
     let l = inv .0 in
     let t = c .loop-test .left in
-    digits-all _ _ _ (inv .1) (omega arith)
+    let e : c .before .loop .i ≡ 8 = omega arith in
+    rw e at (inv .1)
 
 pub sift-spec : {M : Type 1} → statement M
 sift-spec =
     tie.close
-    (tie.spec
-    Inv-loop
-    μ-loop
+    (tie.spec Inv-loop μ-loop
     (λ c. (omega arith, word-start _))
     (λ c. search needs)
     (λ c. let d = c .before in let l = entry (d .before) .pre .long in omega (arith, d .loop-test .taken))
-    stays-requires
+    (λ c κs. let d = c .before in let t = d .loop-test .taken in (t, entry (d .before) .pre .entries-bounded _ (omega arith)))
     with-digit-requires
     (λ c. omega (arith, begun (c .before) .loop-test .taken))
     (λ c. omega (arith, begun (c .before) .loop-test .taken))
-    loop-again
-    returns)
+    loop-again returns)

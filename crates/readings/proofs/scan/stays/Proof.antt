@@ -1,22 +1,19 @@
 -- The three cases of the two digits.
-use mathlib.Core.Path.{sym, _∙_}
+use mathlib.Core.Path.{_≡_, sym, _∙_}
+use mathlib.Core.Bool.{true}
 use borrow.Author.Needs.{needs}
-use Rattle.readings.proofs.LeftLaws.{alike, differs}
+use Rattle.base.specs.Digits.{bit}
 use Rattle.readings.proofs.scan.stays.Statement.{statement}
 use Rattle.readings.proofs.scan.stays.Tie as tie
 
-returns : tie.Need-returns
-returns c =
-    differs _ _ _ _ (sym (c .before .before .before .if1 .taken) ∙ c .before .before .before .before .digit-at .ensures) (sym (c .before .if2 .taken) ∙ c .before .before .digit-at2 .ensures) (c .stray .ensures)
-
-returns-2 : tie.Need-returns-2
-returns-2 c =
-    alike _ _ _ (sym (c .before .before .if1 .taken) ∙ c .before .before .before .digit-at .ensures) (sym (c .if2 .left) ∙ c .before .digit-at2 .ensures)
-
-returns-3 : tie.Need-returns-3
-returns-3 c = rw (sym (c .before .digit-at .ensures) ∙ c .if1 .left)
+-- past the first test the digit is left
+left : (d : tie.After-digit-at2) → true ≡ bit (d .before .before .before .args .left) (d .before .before .before .args .i)
+left d = sym (d .before .if1 .taken) ∙ d .before .before .digit-at .ensures
 
 pub stays-spec : {M : Type 1} → statement M
 stays-spec =
     tie.close
-    (tie.spec (λ c κs. search needs) (λ c κs. search needs) (λ c κs. search needs) returns returns-2 returns-3)
+    (tie.spec (λ c κs. search needs) (λ c κs. search needs) (λ c κs. search needs)
+    (λ c. let d = c .before .before in rw (← left d, ← d .digit-at2 .ensures, c .before .if2 .taken, c .stray .ensures))
+    (λ c. rw (← left (c .before), ← c .before .digit-at2 .ensures, c .if2 .left))
+    (λ c. rw (sym (c .before .digit-at .ensures) ∙ c .if1 .left)))

@@ -22,10 +22,10 @@ with-one byte i s h e = rw (e, one-shifted 8 i h) (omega arith)
 with-none : (byte i : ℕ) (s : Bool) → s ≡ false → byte ≡ byte + digit s * 2 ^ i
 with-none byte i s e = rw e (omega arith)
 
-returns : tie.Need-returns
-returns c = with-one (c .before .args .byte) (c .before .args .i) _ (c .before .pre .0) (c .if1 .taken)
-
 pub with-digit-spec : {M : Type 1} → statement M
 with-digit-spec =
     tie.close
-    (tie.spec (λ c. search needs) (λ c. search needs) (λ c. record { fits = let h = fits (c .before .args .byte) (c .before .args .i) (c .before .pre) in omega arith }) returns (λ c. with-none (c .before .args .byte) (c .before .args .i) _ (c .if1 .left)))
+    (tie.spec (λ c. search needs) (λ c. search needs)
+    (λ c. let s = c .before in record { fits = (let h = fits (s .args .byte) (s .args .i) (s .pre) in omega arith) })
+    (λ c. with-one (c .before .args .byte) (c .before .args .i) _ (c .before .pre .0) (c .if1 .taken))
+    (λ c. with-none (c .before .args .byte) (c .before .args .i) _ (c .if1 .left)))

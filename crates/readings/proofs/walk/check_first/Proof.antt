@@ -9,8 +9,8 @@ use Rattle.plan.proofs.StepLaws.{extra-low}
 use Rattle.plan.proofs.RoundLaws.{round-below}
 use Rattle.readings.specs.Readings.{strayIn, Left}
 use Rattle.readings.proofs.CapturePlaces.{starts-none, starts-next, part-below}
-use Rattle.readings.proofs.LeftLaws.{still-lent}
-use Rattle.readings.proofs.Following.{left-no-part, left-parts, left-first, period-is}
+use Rattle.readings.proofs.LeftLaws.{left-zero, left-one, still-lent}
+use Rattle.readings.proofs.Following.{period-is}
 use Rattle.readings.proofs.walk.check_first.Statement.{statement}
 use Rattle.readings.proofs.walk.check_first.Tie as tie
 
@@ -67,7 +67,7 @@ loop-again c =
     let inv = d .before .before .before .loop .inv in
     let t = d .before .if1 .taken in
     let next = starts-next _ _ _ _ (inv .1) (d .extra-after .ensures) in
-    (omega arith, next, left-parts _ _ _ _ _ (inv .2) (c .before .before .check-part .ensures))
+    (omega arith, next, left-one _ _ (inv .2) (c .before .before .check-part .ensures))
 
 returns : tie.Need-returns Inv-loop μ-loop
 returns c =
@@ -76,18 +76,17 @@ returns c =
     let l = inv .0 in
     let t = c .if1 .left in
     let e : r .loop .i ≡ entry r .args .plan .wide = omega arith in
-    (period-is _ _ _ (inv .1) e, left-first _ _ _ _ _ _ (inv .2) e)
+    (period-is _ _ _ (inv .1) e, rw e at (inv .2))
 
 pub check-first-spec : {M : Type 1} → statement M
 check-first-spec =
     tie.close
     (tie.spec Inv-loop μ-loop
-    (λ c. (omega arith, starts-none _, left-no-part _ _ _ _ _ _))
+    (λ c. (omega arith, starts-none _, left-zero _ _ _))
     (λ c κs. let p = entry (c .before .before) .pre .0 in (p .small, round-below _ (p .small) _ (c .if1 .taken)))
     check-part-requires
     (λ c. let low = few (counted c) in omega arith)
-    add-t-2
-    add-i
+    add-t-2 add-i
     (λ c. let t = counted c .before .if1 .taken in omega arith)
     loop-again
     (λ c. c .before .before .loop .inv .2 .long)

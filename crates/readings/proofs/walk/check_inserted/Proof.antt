@@ -11,8 +11,8 @@ use Rattle.plan.specs.Plans.{basesFor}
 use Rattle.plan.proofs.MixLaws.{changed-low}
 use Rattle.plan.proofs.StepLaws.{size-low, extra-low}
 use Rattle.readings.specs.Readings.{valueAt, strayAfter, Left}
-use Rattle.readings.proofs.LeftLaws.{still-lent}
-use Rattle.readings.proofs.Following.{left-start, left-next, left-last, next-row, values-first, values-next, values-last, values-on}
+use Rattle.readings.proofs.LeftLaws.{left-zero, still-lent}
+use Rattle.readings.proofs.Following.{left-next, left-last, next-row, values-first, values-next, values-last, values-on}
 use Rattle.readings.proofs.walk.check_inserted.Statement.{statement}
 use Rattle.readings.proofs.walk.check_inserted.Tie as tie
 
@@ -58,7 +58,7 @@ loop-holds c =
     let d = c .before .before in
     let p = d .before .before .before .before .pre in
     let e = d .base-values .ensures in
-    (omega arith, left-start _ _ _ _ _ _ _, values-first _ _ _ (p .0) _ _ _ (p .1 .0) (p .1 .1 .0) _ e, e, c .base-values2 .ensures)
+    (omega arith, left-zero _ _ _, values-first _ _ _ (p .0) _ _ _ (p .1 .0) (p .1 .1 .0) _ e, e, c .base-values2 .ensures)
 
 mul-mixed : tie.Need-mul-mixed Inv-loop μ-loop
 mul-mixed c =
@@ -84,13 +84,6 @@ check-next-requires c κs =
     let w = row (entry r) (r .loop .k) (omega arith) in
     (w .0, (w .1, still-lent (entry r .pre .1 .1 .1) (r .loop .inv .1)))
 
-add-k : tie.Need-add-k Inv-loop μ-loop
-add-k c =
-    let d = begun (mixed c) in
-    let t = d .if1 .taken in
-    let l = few (entry (d .before .before)) in
-    omega arith
-
 loop-again : tie.Need-loop-again Inv-loop μ-loop
 loop-again c =
     let m = mixed c in
@@ -102,12 +95,6 @@ loop-again c =
     let next = values-next _ _ _ (p .0) _ _ _ (p .1 .0) (p .1 .1 .0) _ _ _ _ t (inv .3) (inv .4) (m .mixed .ensures) in
     let all = left-next _ _ _ _ _ _ _ _ _ refl (inv .2) next (inv .1) (c .before .before .check-next .ensures) in
     (omega arith, all, values-on _ _ _ _ next, inv .3, inv .4)
-
-add-t-2 : tie.Need-add-t-2 Inv-loop μ-loop
-add-t-2 c =
-    let s = entry (c .before .before .before) in
-    let r = row s (s .args .span .extra) (omega arith) in
-    omega arith
 
 check-next-requires-2 : tie.Need-check-next-requires-2 Inv-loop μ-loop
 check-next-requires-2 c κs =
@@ -137,14 +124,11 @@ check-inserted-spec =
     (λ c κs. c .before .before .before .before .before .pre .0 .small)
     loop-holds
     (λ c. let t = c .if1 .taken in let l = few (entry (c .before .before)) in omega arith)
-    mul-mixed
-    (λ c κs. search needs)
-    add-t
-    check-next-requires
-    add-k
+    mul-mixed (λ c κs. search needs) add-t check-next-requires
+    (λ c. let d = begun (mixed c) in let t = d .if1 .taken in let l = few (entry (d .before .before)) in omega arith)
     (λ c. let t = begun (mixed c) .if1 .taken in omega arith)
     loop-again
-    add-t-2
+    (λ c. let s = entry (c .before .before .before) in let r = row s (s .args .span .extra) (omega arith) in omega arith)
     check-next-requires-2
     (λ c. let d = c .before .before in d .check-next2 .ensures .long ∙ ended (d .before) .before .before .loop .inv .1 .long)
     returns)

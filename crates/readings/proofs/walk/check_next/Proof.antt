@@ -5,7 +5,6 @@ use native.Mathlib.Nat.{suc-mul}
 use native.Mathlib.Numerals.{add-one}
 use native.Mathlib.Omega.{arith}
 use borrow.Author.Needs.{needs}
-use Rattle.readings.proofs.LeftLaws.{left-changing}
 use Rattle.readings.proofs.walk.check_next.Statement.{statement}
 use Rattle.readings.proofs.walk.check_next.Tie as tie
 
@@ -27,19 +26,12 @@ check-rows-requires c κs =
     let e = earlier (s .args .place .t) (s .args .place .bytes) in
     ((omega arith, q), s .pre .1 .1)
 
-returns : tie.Need-returns
-returns c =
-    let d = c .before .before in
-    left-changing _ _ _ _ _ _ _ _ _ (flipped d .flip .ensures) (d .check-rows .ensures)
-
 pub check-next-spec : {M : Type 1} → statement M
 check-next-spec =
     tie.close
-    (tie.spec
-    (λ c κs. search needs)
+    (tie.spec (λ c κs. search needs)
     (λ c. let a = entry (c .before) .args .place in let q = entry (c .before) .pre .0 in let e = earlier (a .t) (a .bytes) in omega arith)
     (λ c. let q = entry (c .before .before) .pre .1 .0 in omega arith)
     (λ c. let q = entry (c .before .before .before) .pre .0 in omega arith)
-    check-rows-requires
-    (λ c. search needs)
-    returns)
+    check-rows-requires (λ c. search needs)
+    (λ c. let d = c .before .before in rw (flipped d .flip .ensures) at (d .check-rows .ensures)))

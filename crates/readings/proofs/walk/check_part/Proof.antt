@@ -28,6 +28,4 @@ check-part-spec =
     tie.close
     (tie.spec
     (λ c. left-bare _ _ _ _ _ _ _ _ _ (entry (c .before) .pre .1 .0) (c .if1 .taken))
-    check-inserted-requires
-    (λ c. search needs)
-    returns-2)
+    check-inserted-requires (λ c. search needs) returns-2)

@@ -29,19 +29,14 @@ loop-again c =
 pub clear-spec : {M : Type 1} → statement M
 clear-spec =
     tie.close
-    (tie.spec
-    Inv-loop
-    μ-loop
+    (tie.spec Inv-loop μ-loop
     (λ c. mapping-none (c .before .before .pre .1))
     (λ c. let few = entry c .pre .0 .few in let t = c .loop-test .taken in omega arith)
     (λ c κs. byte-inside _ _ _ _ (entry c .pre .0) (c .loop-test .taken))
     (λ c. search needs)
     (λ c. let d = begun c in entry-in (d .before .loop .inv) (d .loop-test .taken))
-    (λ c κs. search needs)
-    (λ c. search needs)
+    (λ c κs. search needs) (λ c. search needs)
     (λ c. let d = begun (c .before) in entry-in (d .before .loop .inv) (d .loop-test .taken))
-    (λ c. omega arith)
-    (λ c. omega arith)
-    loop-again
+    (λ c. omega arith) (λ c. omega arith) loop-again
     (λ c. mapping-long (c .before .loop .inv))
     (λ c. mapping-all (c .before .loop .inv) (c .loop-test .left)))

@@ -39,11 +39,6 @@ known d = captured _ _ _ _ (entry d .pre .0) (d .row-bytes .ensures)
 long : (d : tie.After-own-codes) → entry (rows (codes d)) .args .cells ≤ length (entry (rows (codes d)) .args .table .now)
 long d = let s = entry (rows (codes d)) in let l = s .pre .1 .long in omega (arith, cells-in (s .args .cells))
 
-read-codes-requires : tie.Need-read-codes-requires
-read-codes-requires c κs =
-    let d = c .before in
-    (known d, entries-below _ _ _ _ (entry d .pre .1) (cells-in _))
-
 own-codes-requires : tie.Need-own-codes-requires
 own-codes-requires c κs =
     let d = c .before .before .before in
@@ -78,11 +73,6 @@ read-nets-spec =
     tie.close
     (tie.spec
     (λ c κs. let f = c .before .before .pre .0 .cells-bounded in omega arith)
-    read-codes-requires
-    own-codes-requires
-    (λ c. search needs)
-    check-all-requires
-    (λ c. search needs)
-    clear-requires
-    (λ c. search needs)
-    returns)
+    (λ c κs. let d = c .before in (known d, entries-below _ _ _ _ (entry d .pre .1) (cells-in _)))
+    own-codes-requires (λ c. search needs) check-all-requires (λ c. search needs) clear-requires
+    (λ c. search needs) returns)

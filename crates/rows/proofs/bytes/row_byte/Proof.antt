@@ -32,12 +32,8 @@ byte-cells ws j =
     let w = getD ws (j / 8) 0 / 2 ^ (8 * (j % 8)) in
     low-byte w ∙ sym (word-cut 8 w) ∙ word-same 8 (bit w) (λ i. member ws (8 * j + i)) (cell-digit ws j)
 
-cast-result : tie.Need-cast-result
-cast-result c = record { fits = rw low-byte (omega arith) }
-
-returns : tie.Need-returns
-returns c = byte-cells (c .before .args .words .now) (c .before .args .j)
-
 pub row-byte-spec : {M : Type 1} → statement M
 row-byte-spec =
-    tie.close (tie.spec (λ c. search needs) (λ c. omega (arith, c .before .pre)) (λ c. search needs) (λ c. search needs) cast-result returns)
+    tie.close (tie.spec (λ c. search needs) (λ c. omega (arith, c .before .pre)) (λ c. search needs) (λ c. search needs)
+    (λ c. record { fits = rw low-byte (omega arith) })
+    (λ c. byte-cells (c .before .args .words .now) (c .before .args .j)))

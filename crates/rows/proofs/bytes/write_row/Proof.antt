@@ -31,9 +31,21 @@ module _ (row : List ℕ) (at : ℕ) (before : List ℕ) where
   begun-none : Begun row at before 0 before
   begun-none = record { long = refl; so-far = paste-zero before at row }
 
-  begun-more : {j : ℕ} {after : List ℕ} → Begun row at before j after → at + length row ≤ length before → j < length row → (byte : ℕ) → byte ≡ getD row j 0 → Begun row at before (j + 1) (set after (at + j) byte)
+  begun-more :
+      {j : ℕ} {after : List ℕ} →
+      Begun row at before j after →
+      at + length row ≤ length before →
+      j < length row →
+      (byte : ℕ) →
+      byte ≡ getD row j 0 →
+      Begun row at before (j + 1) (set after (at + j) byte)
   begun-more {j} {after} b room l byte e =
-      record { long = length-set after (at + j) byte ∙ b .long; so-far = ap₂ (λ (bs : List ℕ) (x : ℕ). set bs (at + j) x) (b .so-far) e ∙ paste-suc before at row j 0 (omega arith) l ∙ ap (paste before at row) (sym (add-one j)) }
+      record {
+        long = length-set after (at + j) byte ∙ b .long;
+        so-far = ap₂ (λ (bs : List ℕ) (x : ℕ). set bs (at + j) x) (b .so-far) e
+            ∙ paste-suc before at row j 0 (omega arith) l
+            ∙ ap (paste before at row) (sym (add-one j));
+      }
 
   begun-all : {j : ℕ} {after : List ℕ} → Begun row at before j after → j ≡ length row → after ≡ placed at row before
   unfolding placed
@@ -58,30 +70,36 @@ Inv-loop out₀ at cells count words j₀ out j = (j ≤ count) × Begun (rowOf 
 abbrev μ-loop : tie.MeasureT-loop
 μ-loop out₀ at cells count words j₀ out j = count - j
 
+abbrev start : tie.At-loop Inv-loop μ-loop → tie.Start Inv-loop μ-loop
+start l = l .before .before .before .before
+
 -- a row has no more bytes than a set of cells
 row-byte-requires : tie.Need-row-byte-requires Inv-loop μ-loop
 unfolding rowBytes ceil
 row-byte-requires c κs =
-    let e : length (c .before .before .before .before .before .before .args .set .words) ≡ cellWords = search needs in
-    omega (arith, c .before .loop-test .taken, c .before .before .before .before .row-bytes .ensures, c .before .before .before .before .before .before .pre .0 .cells-bounded)
+    let s = start (c .before .before) in
+    let e : length (s .args .set .words) ≡ cellWords = search needs in
+    omega (arith, c .before .loop-test .taken, c .before .before .before .before .row-bytes .ensures, s .pre .0 .cells-bounded)
 
 loop-again : tie.Need-loop-again Inv-loop μ-loop
 loop-again c =
-    let start = c .before .before .before .before .before .before .before in
-    let cells = start .args .cells in
-    let f = member (start .args .set .words) in
-    let r = row-length cells f in
-    (omega arith, begun-more _ _ _ (c .before .before .before .loop .inv .1) (omega arith) (omega arith) _ (c .row-byte .ensures ∙ own-byte cells f (start .pre .1) _ (omega arith)))
+    let l = c .before .before .before in
+    let s = start l in
+    let f = member (s .args .set .words) in
+    let r = row-length (s .args .cells) f in
+    let byte = c .row-byte .ensures ∙ own-byte (s .args .cells) f (s .pre .1) _ (omega arith) in
+    (omega arith, begun-more _ _ _ (l .loop .inv .1) (omega arith) (omega arith) _ byte)
 
 returns : tie.Need-returns Inv-loop μ-loop
 returns c =
-    let a = c .before .before .before .before .before .args in
+    let a = start (c .before) .args in
     let r = row-length (a .cells) (member (a .set .words)) in
     begun-all _ _ _ (c .before .loop .inv .1) (omega arith)
 
 pub write-row-spec : {M : Type 1} → statement M
 write-row-spec =
     tie.close
-    (tie.spec Inv-loop μ-loop
-    (λ c κs. search needs) (λ c. (omega arith, begun-none _ _ _)) (λ c. search needs) row-byte-requires (λ c. search needs) (λ c. search needs) (λ c. search needs) (λ c. search needs)
-    loop-again (λ c. search needs) returns)
+    (tie.spec Inv-loop μ-loop (λ c κs. search needs)
+    (λ c. (omega arith, begun-none _ _ _))
+    (λ c. search needs) row-byte-requires (λ c. search needs) (λ c. search needs) (λ c. search needs)
+    (λ c. search needs) loop-again (λ c. search needs) returns)

@@ -17,6 +17,4 @@ write-groups-spec =
     tie.close
     (tie.spec
     (λ c κs. let p = c .before .before .before .pre in (p .ready, p .cells-are))
-    write-rows-requires
-    (λ c. search needs)
-    (λ c. search needs))
+    write-rows-requires (λ c. search needs) (λ c. search needs))

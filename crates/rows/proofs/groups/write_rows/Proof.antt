@@ -23,7 +23,11 @@ next-row at g bytes e = omega (arith, e, suc-mul g bytes, add-one g)
 
 abbrev Inv-loop : tie.InvT-loop
 Inv-loop file table found cells groups out₀ bytes earlier₀ at₀ g₀ out earlier at g =
-    (g ≤ groups) × (bytes ≡ rowBytes cells) × (at ≡ g * bytes) × (member (earlier .words) ≡ listed (Groups.earlier (boardOf file) g)) × Written (boardOf file) g out₀ out
+    (g ≤ groups)
+    × (bytes ≡ rowBytes cells)
+    × (at ≡ g * bytes)
+    × (member (earlier .words) ≡ listed (Groups.earlier (boardOf file) g))
+    × Written (boardOf file) g out₀ out
 
 abbrev μ-loop : tie.MeasureT-loop
 μ-loop file table found cells groups out₀ bytes earlier₀ at₀ g₀ out earlier at g = groups - g
@@ -46,10 +50,6 @@ row-bytes-requires c κs =
     let f = cells-fit _ (p .ready .by-control .checked) in
     omega arith
 
-loop-holds : tie.Need-loop-holds Inv-loop μ-loop
-loop-holds c =
-    (omega arith, c .before .row-bytes .ensures, sym (zero-mul _), earlier-none _ _ (c .empty .ensures), written-none _ _)
-
 write-row-requires : tie.Need-write-row-requires Inv-loop μ-loop
 write-row-requires c κs =
     let l = c .before .before .before in
@@ -58,7 +58,8 @@ write-row-requires c κs =
     let w = inv .4 .long in
     let r = row-fits _ _ _ _ _ _ (c .before .before .loop-test .taken) (inv .1) (p .long) (inv .2) in
     let s = small l in
-    (record { long = omega arith; cells-bounded = omega arith }, on-own _ _ _ _ (p .ready .accepted) (p .cells-are) (on-next _ _ _ (c .before .selected .ensures _ (inv .3))))
+    let on = on-next _ _ _ (c .before .selected .ensures _ (inv .3)) in
+    (record { long = omega arith; cells-bounded = omega arith }, on-own _ _ _ _ (p .ready .accepted) (p .cells-are) on)
 
 -- the place where a group was selected, from where its row was written and joined
 abbrev chosen : tie.After-union Inv-loop μ-loop → tie.After-selected Inv-loop μ-loop
@@ -82,8 +83,9 @@ loop-again c =
     let t = chosen c .before .loop-test .taken in
     let a = inv .2 in
     let on = chosen c .selected .ensures _ (inv .3) in
-    let written = c .before .before .before .write-row .ensures in
-    (omega arith, inv .1, next-row _ _ _ a, earlier-next _ _ _ _ _ on (inv .3) (c .union .ensures), written-next _ _ _ _ _ _ _ _ _ _ (inv .4) t (inv .1) (p .long) a (board-size _ _ (p .cells-are)) (on-next _ _ _ on) written)
+    let row = c .before .before .before .write-row .ensures in
+    let written = written-next _ _ _ _ _ _ _ _ _ _ (inv .4) t (inv .1) (p .long) a (board-size _ _ (p .cells-are)) (on-next _ _ _ on) row in
+    (omega arith, inv .1, next-row _ _ _ a, earlier-next _ _ _ _ _ on (inv .3) (c .union .ensures), written)
 
 returns : tie.Need-returns Inv-loop μ-loop
 returns c =
@@ -96,17 +98,11 @@ returns c =
 pub write-rows-spec : {M : Type 1} → statement M
 write-rows-spec =
     tie.close
-    (tie.spec
-    Inv-loop
-    μ-loop
-    row-bytes-requires
-    (λ c κs. search needs)
-    loop-holds
+    (tie.spec Inv-loop μ-loop row-bytes-requires (λ c κs. search needs)
+    (λ c. (omega arith, c .before .row-bytes .ensures, sym (zero-mul _), earlier-none _ _ (c .empty .ensures), written-none _ _))
     (λ c. let p = start (c .before) .pre .0 .groups-bounded in let t = c .loop-test .taken in omega arith)
     (λ c κs. start (c .before) .pre .1)
-    write-row-requires
-    (λ c κs. search needs)
-    add-at
+    write-row-requires (λ c κs. search needs) add-at
     (λ c. omega (arith, chosen c .before .loop-test .taken))
     loop-again
     (λ c. c .before .loop .inv .4 .long)

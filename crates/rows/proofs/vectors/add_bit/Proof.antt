@@ -31,14 +31,13 @@ cell-bit-requires c κs =
     let n = out-net-low _ (p .checked) _ (p .below) in
     (cell-low (entry c), subst (λ (x : Cell). outNet x < 64 * netWords) (sym (c .cell-at .ensures)) n)
 
-add-requires : tie.Need-add-requires
-add-requires c κs =
-    let s = entry (asked (c .before .before .before)) in
-    let l = cell-low s in
-    omega (arith, s .pre .1)
-
 -- the bit found is the cell's
-told : (b : Board) (cell : Cell) (on nets : ℕ → Bool) (r a : Bool) (c : ℕ) → cell ≡ b .cell c → r ≡ bitOf (on c) nets cell → r ≡ a → bitAt b on nets c ≡ a
+told :
+    (b : Board) (cell : Cell) (on nets : ℕ → Bool) (r a : Bool) (c : ℕ) →
+    cell ≡ b .cell c →
+    r ≡ bitOf (on c) nets cell →
+    r ≡ a →
+    bitAt b on nets c ≡ a
 unfolding bitAt
 told b cell on nets r a c e g h = cc
 
@@ -60,9 +59,6 @@ add-bit-spec =
     tie.close
     (tie.spec
     (λ c κs. c .before .before .pre .0)
-    cell-bit-requires
-    (λ c. search needs)
-    add-requires
-    (λ c. search needs)
-    returns
-    returns-2)
+    cell-bit-requires (λ c. search needs)
+    (λ c κs. let s = entry (asked (c .before .before .before)) in let l = cell-low s in omega (arith, s .pre .1))
+    (λ c. search needs) returns returns-2)

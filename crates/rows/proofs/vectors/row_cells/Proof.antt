@@ -19,9 +19,20 @@ Inv-loop file cells on nets words₀ c₀ words c =
 abbrev μ-loop : tie.MeasureT-loop
 μ-loop file cells on nets words₀ c₀ words c = cells - c
 
+abbrev start : tie.At-loop Inv-loop μ-loop → tie.Start Inv-loop μ-loop
+start l = l .before .before
+
+cast-t9 : tie.Need-cast-t9 Inv-loop μ-loop
+cast-t9 c =
+    let p = start (c .before) .pre in
+    let e = p .1 in
+    let f = cells-fit _ (p .0) in
+    let t = c .loop-test .taken in
+    omega arith
+
 add-bit-requires : tie.Need-add-bit-requires Inv-loop μ-loop
 add-bit-requires c κs =
-    let p = c .before .before .before .before .pre in
+    let p = start (c .before .before) .pre in
     let e = p .1 in
     let t = c .before .loop-test .taken in
     (record { checked = p .0; below = omega arith }, c .before .before .loop .inv .2)
@@ -36,7 +47,7 @@ returns : tie.Need-returns Inv-loop μ-loop
 returns c =
     let inv = c .before .loop .inv in
     let l = inv .0 in
-    let e : c .before .loop .c ≡ c .before .before .before .args .cells = omega (arith, c .loop-test .left) in
+    let e : c .before .loop .c ≡ start (c .before) .args .cells = omega (arith, c .loop-test .left) in
     rw e at (inv .1)
 
 pub row-cells-spec : {M : Type 1} → statement M
@@ -44,10 +55,9 @@ row-cells-spec =
     tie.close
     (tie.spec Inv-loop μ-loop
     (λ c. (omega arith, member-zeros cellWords ∙ up-none _, refl))
-    (λ c. let p = c .before .before .before .pre in let e = p .1 in let f = cells-fit _ (p .0) in let t = c .loop-test .taken in omega arith)
+    cast-t9
     (λ c. sym (c .before .before .loop .inv .2))
     add-bit-requires
     (λ c. omega (arith, c .before .before .before .loop-test .taken))
     (λ c. omega (arith, c .before .before .before .loop-test .taken))
-    loop-again
-    returns)
+    loop-again returns)

@@ -57,7 +57,10 @@ returns c =
     let g = on .before .before in
     let p = start (g .before) .pre in
     let v = vector-is _ _ _ _ (p .planned) (g .before .step-at .ensures) in
-    (group-is g, (vector-written _ _ _ _ _ _ _ _ _ (board-size _ _ (p .cells-are)) (group-is g) (on .group .ensures .0) (r .before .values .ensures ∙ ap (λ (v : Vector). v .value) v) (r .row-cells .ensures) (w .write-row .ensures), on .group .ensures .1))
+    let nets = r .before .values .ensures ∙ ap (λ (v : Vector). v .value) v in
+    let size = board-size _ _ (p .cells-are) in
+    let row = vector-written _ _ _ _ _ _ _ _ _ size (group-is g) (on .group .ensures .0) nets (r .row-cells .ensures) (w .write-row .ensures) in
+    (group-is g, (row, on .group .ensures .1))
 
 pub write-vector-spec : {M : Type 1} → statement M
 write-vector-spec =
@@ -68,6 +71,4 @@ write-vector-spec =
     group-requires
     (λ c κs. let s = c .before .before .before in (small s, within s))
     (λ c κs. let g = c .before .before .before in let p = start (g .before) .pre in (p .ready .by-control .checked, p .cells-are))
-    write-row-requires
-    (λ c. search needs)
-    returns)
+    write-row-requires (λ c. search needs) returns)
