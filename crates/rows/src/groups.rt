@@ -3,6 +3,7 @@ ghost use mathlib.Core.Path.{_≡_};
 ghost use Rattle.rules.specs.File.{boardOf};
 ghost use Rattle.rules.specs.Answers.{over};
 ghost use Rattle.rules.specs.Groups.{groupRows};
+ghost use Rattle.select.specs.Turns.{Ready};
 ghost use Rattle.select.specs.Highest.{Order};
 ghost use Rattle.rows.specs.Room.{GroupsRoom};
 use crate::bytes::row_bytes;
@@ -38,7 +39,7 @@ fn write_rows(
     }
 }
 
-// "G rows of R bytes": the control cells that are on in each of the groups.
+// "G rows of R bytes": the control cells that are on in each of the groups; the table can be used again.
 pub fn write_groups(
     file: &[u8],
     table: &mut [u16; TABLE],
@@ -48,6 +49,7 @@ pub fn write_groups(
 )
     requires { ⌜ GroupsRoom (now file) (now table) cells groups (now out) ⌝ }
     ensures { λ r. ⌜ now (out .exit) ≡ over (groupRows (boardOf (now (file .entry))) groups) (now (out .entry)) ⌝ }
+    ensures { λ r. ⌜ Ready (now (file .entry)) (now (table .exit)) ⌝ }
 {
     let found = fill_order(file, table, cells);
     write_rows(file, table, found, cells, groups, out);

@@ -82,7 +82,7 @@ returns-2 c =
     let told = found w in
     let o = told .before .before in
     let ok = sym (judged o) ∙ told .enum-told .given .1 in
-    groups-accepted _ _ (c .group-bits .ensures) ok (planned o .plan-of .ensures .groups-are) (w .write-groups .ensures)
+    groups-accepted _ _ (c .group-bits .ensures) ok (planned o .plan-of .ensures .groups-are) (w .write-groups .ensures .0)
 
 pub answer-groups-spec : {M : Type 1} → statement M
 answer-groups-spec =

@@ -17,4 +17,6 @@ write-groups-spec =
     tie.close
     (tie.spec
     (λ c κs. let p = c .before .before .before .pre in (p .ready, p .cells-are))
-    write-rows-requires (λ c. search needs) (λ c. search needs))
+    write-rows-requires
+    (λ c. search needs)
+    (λ c. let w = c .before .before in (w .write-rows .ensures, w .before .before .before .fill-order .ensures .ready)))
