@@ -60,7 +60,7 @@ module _ (p : Plan) (capture : List ℕ) (bytes : ℕ) (k : Rowed p capture byte
 
 pub row-scanned : (p : Plan) (capture : List ℕ) (cells bytes : ℕ) → Captured p capture cells bytes → (t : ℕ) → t < length (stepsOf (basesFor p)) → Scanned capture (t * bytes) cells
 row-scanned p capture cells bytes k t l =
-    record { few = k .cells-bounded; inside = omega (arith, row-inside p capture bytes (rowed p capture cells bytes k) t l, k .bytes-are) }
+    record { cells-bounded = k .cells-bounded; inside = omega (arith, row-inside p capture bytes (rowed p capture cells bytes k) t l, k .bytes-are) }
 
 -- the values of the k-th vector of a part
 pub part-value :

@@ -84,7 +84,7 @@ pub record Left (lost : ℕ → Bool) (before : List ℕ) (n : ℕ) (after : Lis
 
 -- the capture has a row of so many cells from `at` on, no more than a board has
 pub record Scanned (capture : List ℕ) (at cells : ℕ) : Type 0 where
-  pub few : cells ≤ mostCells
+  pub cells-bounded : cells ≤ mostCells
   pub inside : at + rowBytes cells ≤ length capture
 
 -- a code of two bytes with room for one bit more
