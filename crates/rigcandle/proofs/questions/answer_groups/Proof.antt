@@ -71,11 +71,6 @@ write-groups-requires c κs =
 abbrev found : tie.After-write-groups → tie.After-enum-told
 found c = c .before .before .before
 
-group-bits-requires : tie.Need-group-bits-requires
-group-bits-requires c κs =
-    let p = planned (found (c .before .before) .before .before) in
-    groups-few _ _ (start p .pre .ready .accepted) (p .plan-of .ensures)
-
 returns-2 : tie.Need-returns-2
 returns-2 c =
     let w = c .before .before .before in
@@ -83,6 +78,11 @@ returns-2 c =
     let o = told .before .before in
     let ok = sym (judged o) ∙ told .enum-told .given .1 in
     groups-accepted _ _ (c .group-bits .ensures) ok (planned o .plan-of .ensures .groups-are) (w .write-groups .ensures .0)
+
+group-bits-requires : tie.Need-group-bits-requires
+group-bits-requires c κs =
+    let p = planned (found (c .before .before) .before .before) in
+    groups-few _ _ (start p .pre .ready .accepted) (p .plan-of .ensures)
 
 pub answer-groups-spec : {M : Type 1} → statement M
 answer-groups-spec =

@@ -120,11 +120,6 @@ judge-readings-requires c κs =
 abbrev read : tie.After-judge-readings → tie.After-read-nets
 read c = c .before .before .before .before
 
-marks-bits-requires : tie.Need-marks-bits-requires
-marks-bits-requires c κs =
-    let j = c .before .before in
-    counts-low _ (j .judge-readings .ensures .1) (accepted (sized (judged (whole (roomy (found (read j)))))))
-
 returns-3 : tie.Need-returns-3
 returns-3 c =
     let j = c .before .before .before in
@@ -135,6 +130,11 @@ returns-3 c =
     let ok = sym (room-is o) ∙ told .enum-told3 .given .1 in
     let m = marks-are _ _ _ (start s .pre .1) (s .read-sizes .ensures .cells) (n .read-nets .ensures) in
     marked-as _ (j .judge-readings .ensures .1) _ _ (c .marks-bits .ensures) ok m (j .judge-readings .ensures .0)
+
+marks-bits-requires : tie.Need-marks-bits-requires
+marks-bits-requires c κs =
+    let j = c .before .before in
+    counts-low _ (j .judge-readings .ensures .1) (accepted (sized (judged (whole (roomy (found (read j)))))))
 
 pub answer-marks-spec : {M : Type 1} → statement M
 answer-marks-spec =

@@ -51,12 +51,6 @@ small c = cells-few _ (start c .pre .ready .accepted) (cells-are c)
 total-of : (c : tie.After-once) → c .before .total .result ≡ totalOf (boardOf (file (planned c)))
 total-of c = c .before .total .ensures ∙ total-is _ _ (planned c .plan-of .ensures)
 
--- a known number is below it
-below : (c : tie.After-enum-told) → number (planned (judged c)) < totalOf (boardOf (file (planned (judged c))))
-below c =
-    let o = judged c in
-    rw (← total-of o) (leb-false _ _ (once-accepted _ _ (sym (o .once .ensures) ∙ c .enum-told .given .1)))
-
 -- what the number's check is, and the room's
 number-is : (c : tie.After-once) → c .once .result ≡ judge (once 13 (leb (totalOf (boardOf (file (planned c)))) (number (planned c))) ∷ [])
 number-is c = check-by (λ t. once 13 (leb t (number (planned c)))) (c .once .ensures) (total-of c)
@@ -79,6 +73,12 @@ returns c =
 
 returns-2 : tie.Need-returns-2
 returns-2 c = vector-refused (c .verdict-bits2 .ensures) (c .before .enum-told4 .given .1) _ _ _ (room-is (c .before .before .before))
+
+-- a known number is below it
+below : (c : tie.After-enum-told) → number (planned (judged c)) < totalOf (boardOf (file (planned (judged c))))
+below c =
+    let o = judged c in
+    rw (← total-of o) (leb-false _ _ (once-accepted _ _ (sym (o .once .ensures) ∙ c .enum-told .given .1)))
 
 write-vector-requires : tie.Need-write-vector-requires
 write-vector-requires c κs =

@@ -20,16 +20,16 @@ file c = c .before .before .before .before .before .args .file .now
 made : (c : tie.After-known-told) → (judge (countChecks (file c)) ≡ Accepted) × PlanOf (boardOf (file c)) (c .before .answer .given .0 .0)
 made c = c .before .before .before .make-plan .ensures .made _ (c .before .answer .given .1)
 
+returns : tie.Need-returns
+returns c =
+    let m = made (c .before .before) in
+    count-accepted _ (c .count-bits .ensures) (m .0) (m .1 .groups-are) (m .1 .wide-are) (c .before .total .ensures ∙ total-is _ _ (m .1))
+
 count-bits-requires : tie.Need-count-bits-requires
 count-bits-requires c κs =
     let m = made (c .before) in
     let ok = board-accepted _ (m .0) in
     (groups-few _ _ ok (m .1), wide-few _ _ ok (m .1), vectors-low _ _ _ (m .0) (m .1) (c .total .ensures))
-
-returns : tie.Need-returns
-returns c =
-    let m = made (c .before .before) in
-    count-accepted _ (c .count-bits .ensures) (m .0) (m .1 .groups-are) (m .1 .wide-are) (c .before .total .ensures ∙ total-is _ _ (m .1))
 
 returns-2 : tie.Need-returns-2
 returns-2 c =

@@ -51,6 +51,9 @@ here c =
     let j = c .before .before .before .loop .j in
     step _ _ j (c .before .shared-slice-known .given j .fits) (c .shared-slice-known2 .given j .fits)
 
+loop-again : tie.Need-loop-again Inv-loop μ-loop
+loop-again c = omega (arith, here c)
+
 returns : tie.Need-returns Inv-loop μ-loop
 returns c =
     let l = c .before .loop in
@@ -64,4 +67,4 @@ differing-spec =
     (tie.spec Inv-loop μ-loop
     (λ c. (omega arith, omega arith))
     (λ c. search needs) (λ c. search needs) (λ c. search needs) (λ c. omega arith) (λ c. omega (arith, here c))
-    (λ c. omega (arith, here c)) (λ c. omega arith) (λ c. omega arith) (λ c. omega (arith, here c)) returns)
+    (λ c. omega (arith, here c)) (λ c. omega arith) (λ c. omega arith) loop-again returns)
