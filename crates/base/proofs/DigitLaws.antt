@@ -74,6 +74,11 @@ bit-word (suc n) f k h =
 pub bit-word-out : (n : ℕ) (f : ℕ → Bool) (k : ℕ) → n ≤ k → bit (word n f) k ≡ false
 bit-word-out n f k h = bit-lt (word n f) k (let a = word-lt n f in let b = pow-mono h in omega arith)
 
+-- a digit is at most 1
+pub digit-bounded : (b : Bool) (n : ℕ) → n ≡ digit b → n ≤ 1
+digit-bounded true n e = omega arith
+digit-bounded false n e = omega arith
+
 pub digit-of : (x : ℕ) → x < 2 → digit (eqb x 1) ≡ x
 digit-of zero h = refl
 digit-of (suc zero) h = refl

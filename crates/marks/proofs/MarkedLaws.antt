@@ -1,7 +1,7 @@
 -- Laws of marks that are written and counted one by one: the marks of n nets and one more are those of n + 1.
 use Prim.Native.Nat.{ℕ, _+_, _<_, _≤_}
 use mathlib.Core.Path.{_≡_, refl, sym, _∙_, ap}
-use mathlib.Core.Bool.{Bool, true, false, not}
+use mathlib.Core.Bool.{Bool, not}
 use mathlib.Core.List.{List, [], _∷_, _++_}
 use native.Mathlib.Numerals.{add-one}
 use native.Mathlib.Omega.{arith}
@@ -12,6 +12,7 @@ use lib.Seq.{append-snoc, set-split}
 use Rattle.base.specs.Tests.{digit}
 use Rattle.base.specs.Lists.{table}
 use Rattle.base.proofs.BoolLaws.{left, right, both, not-fails, fails-not, same-test}
+use Rattle.base.proofs.DigitLaws.{digit-bounded}
 use Rattle.base.proofs.ListLaws.{length-table, table-same}
 use Rattle.rules.specs.File.{Board}
 use Rattle.rules.specs.Marks.{unseen, byteOf, bytesThat, isPass, isFail, isUnsure}
@@ -22,11 +23,6 @@ use Rattle.rows.proofs.PlacedLaws.{over-more}
 use Rattle.marks.specs.Judging.{seenBy, markBy, marksBy, Tested, markIn, marksIn, countsOf, oneMore, CountsBounded, Marked, Counted}
 use Rattle.marks.specs.declared.Tests.{Tests}
 use Rattle.marks.specs.declared.Counts.{Counts}
-
--- a digit is at most 1
-pub digit-few : (a : Bool) (n : ℕ) → n ≡ digit a → n ≤ 1
-digit-few true n e = omega arith
-digit-few false n e = omega arith
 
 -- a byte over 1 is neither pass nor fail
 unsure-is : (byte : ℕ) → ltb 1 byte ≡ isUnsure byte
@@ -58,7 +54,7 @@ bytes-more test (x ∷ bytes) byte = let r = bytes-more test bytes byte in omega
 pub bytes-few : (test : ℕ → Bool) (bytes : List ℕ) → bytesThat test bytes ≤ length bytes
 unfolding bytesThat
 bytes-few test [] = omega arith
-bytes-few test (x ∷ bytes) = let r = bytes-few test bytes in let d = digit-few (test x) _ refl in omega arith
+bytes-few test (x ∷ bytes) = let r = bytes-few test bytes in let d = digit-bounded (test x) _ refl in omega arith
 
 pub counts-more : (bytes : List ℕ) (byte : ℕ) → countsOf (bytes ++ (byte ∷ [])) ≡ oneMore (countsOf bytes) byte
 unfolding countsOf oneMore

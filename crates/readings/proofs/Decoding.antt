@@ -2,7 +2,7 @@
 use Prim.Native.Nat.{ℕ, zero, suc, _+_, _*_, _-_, _/_, _%_, _^_, _≤_, _<_}
 use mathlib.Core.Path.{_≡_, refl, sym, _∙_, ap, ap₂, subst}
 use mathlib.Core.Logic.{⊎-elim}
-use mathlib.Core.Bool.{Bool, true, false, cond, xor}
+use mathlib.Core.Bool.{Bool, true, cond, xor}
 use mathlib.Core.List.{List}
 use native.Mathlib.Nat.{mod-eq-of-lt, div-eq-of-lt, div-one, two-pow-succ, sub-zero}
 use native.Mathlib.Numerals.{add-one}
@@ -14,6 +14,7 @@ use lib.Pow.{pow-mono, shr-shr}
 use Rattle.base.specs.Digits.{bit}
 use Rattle.base.specs.Tests.{digit}
 use Rattle.base.proofs.BoolLaws.{alike, fails-not, order}
+use Rattle.base.proofs.DigitLaws.{digit-bounded}
 use Rattle.base.proofs.TestLaws.{all-at}
 use Rattle.rules.specs.Rows.{rowBytes, rowBit}
 use Rattle.rules.specs.Refusals.{mostWidth}
@@ -33,16 +34,12 @@ pub first-in : (p : Plan) (j t : ℕ) → Small p → j < p .wide → t ≡ star
 first-in p j t s l e = let q = part-below p j 0 t (round-below p s j l) e (omega arith) in omega arith
 
 -- a code of j bits is below 2 ^ j
-digit-low : (a : Bool) → digit a ≤ 1
-digit-low true = omega arith
-digit-low false = omega arith
-
 code-below : (p : Plan) (bytes : ℕ) (capture : List ℕ) (j c : ℕ) → codeFrom p bytes capture j c 0 < 2 ^ j
 unfolding codeFrom
 code-below p bytes capture zero c = omega arith
 code-below p bytes capture (suc j) c =
     let r = code-below p bytes capture j c in
-    let d = digit-low (rowBit capture (startOf p j * bytes) c) in
+    let d = digit-bounded (rowBit capture (startOf p j * bytes) c) _ refl in
     omega (arith, two-pow-succ j)
 
 pub code-low : (p : Plan) (bytes : ℕ) (capture : List ℕ) (j c e : ℕ) → j ≤ mostWidth → e ≤ 0 → codeFrom p bytes capture j c e ≤ mostHalf

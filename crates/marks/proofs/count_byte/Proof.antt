@@ -2,8 +2,9 @@
 use borrow.Author.Needs.{needs}
 use native.Mathlib.Omega.{arith}
 use lib.Dec.{ltb}
+use Rattle.base.proofs.DigitLaws.{digit-bounded}
 use Rattle.rules.specs.Marks.{isPass, isFail}
-use Rattle.marks.proofs.MarkedLaws.{digit-few, one-more}
+use Rattle.marks.proofs.MarkedLaws.{one-more}
 use Rattle.marks.proofs.count_byte.Statement.{statement}
 use Rattle.marks.proofs.count_byte.Tie as tie
 
@@ -11,21 +12,21 @@ add-pass : tie.Need-add-pass
 add-pass c =
     let s = c .before .before in
     let few = s .pre .pass in
-    let one = digit-few (isPass (s .args .byte)) _ (c .before .digit .ensures) in
+    let one = digit-bounded (isPass (s .args .byte)) _ (c .before .digit .ensures) in
     omega arith
 
 add-fail : tie.Need-add-fail
 add-fail c =
     let s = c .before .before .before .before in
     let few = s .pre .fail in
-    let one = digit-few (isFail (s .args .byte)) _ (c .before .digit2 .ensures) in
+    let one = digit-bounded (isFail (s .args .byte)) _ (c .before .digit2 .ensures) in
     omega arith
 
 add-unsure : tie.Need-add-unsure
 add-unsure c =
     let s = c .before .before .before .before .before .before in
     let few = s .pre .unsure in
-    let one = digit-few (ltb 1 (s .args .byte)) _ (c .before .digit3 .ensures) in
+    let one = digit-bounded (ltb 1 (s .args .byte)) _ (c .before .digit3 .ensures) in
     omega arith
 
 returns : tie.Need-returns
