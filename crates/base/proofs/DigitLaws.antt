@@ -121,11 +121,11 @@ below-pow zero = omega arith
 below-pow (suc n) = omega (arith, below-pow n, two-pow-succ n)
 
 -- one fewer than h / s rounded up is no more than h
-pub ceil-low : (h s : ℕ) → 1 ≤ s → ceil h s - 1 ≤ h
-ceil-low h s p = ⊎-elim none some (eq-zero-or-pos h)
+pub ceil-bounded : (h s : ℕ) → 1 ≤ s → ceil h s - 1 ≤ h
+ceil-bounded h s p = ⊎-elim none positive (eq-zero-or-pos h)
   where
     none : h ≡ 0 → ceil h s - 1 ≤ h
     none e = rw (e, ceil-zero s p) (omega arith)
 
-    some : 0 < h → ceil h s - 1 ≤ h
-    some q = let a = ceil-tight h s p q in let b = mul-le-mul-left (ceil h s - 1) p in omega (arith, mul-one (ceil h s - 1))
+    positive : 0 < h → ceil h s - 1 ≤ h
+    positive q = let a = ceil-tight h s p q in let b = mul-le-mul-left (ceil h s - 1) p in omega (arith, mul-one (ceil h s - 1))

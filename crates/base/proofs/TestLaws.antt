@@ -125,8 +125,8 @@ unfolding least
 least-only n p s = rw sub-zero at (seek-at p s)
 
 pub least-at : (n : ℕ) (p : ℕ → Bool) {i : ℕ} → i < n → p i ≡ true → ((j : ℕ) → j < i → p j ≡ false) → least n p ≡ i
-least-at n p l e low =
-    least-only n p (record { above = omega arith; under = omega arith; passes = λ h. e; lower = λ j h q. low j q })
+least-at n p l e none-lower =
+    least-only n p (record { above = omega arith; under = omega arith; passes = λ h. e; lower = λ j h q. none-lower j q })
 
 pub least-none : (n : ℕ) (p : ℕ → Bool) → ((j : ℕ) → j < n → p j ≡ false) → least n p ≡ n
 least-none n p none =

@@ -119,9 +119,9 @@ ones-top j w h =
     ap (λ (v : ℕ). ones (v + w)) (sym (one-mul (2 ^ j))) ∙ ones-cat j 1 w h ∙ add-comm 1 (ones w)
 
 -- the k lowest digits of a word are those of the word without its highest, where it has more than k
-module _ (k j w : ℕ) (low : w < 2 ^ j) (more : k ≤ ones w) where
+module _ (k j w : ℕ) (word-bounded : w < 2 ^ j) (more : k ≤ ones w) where
   top-agrees : (i : ℕ) → i < j → bit (2 ^ j + w) i ≡ bit w i
-  top-agrees i l = bit-top j w low i ∙ rw (ne-eqb i j (λ e. omega arith))
+  top-agrees i l = bit-top j w word-bounded i ∙ rw (ne-eqb i j (λ e. omega arith))
 
   below-top : (i : ℕ) → i < j → among k (bit (2 ^ j + w)) i ≡ among k (bit w) i
   unfolding among
@@ -135,7 +135,7 @@ module _ (k j w : ℕ) (low : w < 2 ^ j) (more : k ≤ ones w) where
 
   pub among-top : among k (bit (2 ^ j + w)) ≡ among k (bit w)
   among-top =
-      let c = count-bits j w low in
+      let c = count-bits j w word-bounded in
       let d = count-same j (bit (2 ^ j + w)) (bit w) top-agrees in
       fun-ext (λ i. ⊎-elim
       (λ (l : i < j). below-top i l)

@@ -98,12 +98,12 @@ module _ (file : List ℕ) where
       j < i →
       headRightAt file j ≡ true
   unfolding blockWrong cellBlockRight
-  lower-right n right i s some found zero l = s .lower 0 some
-  lower-right n right i s some found (suc j) l =
+  lower-right n right i s positive found zero l = s .lower 0 positive
+  lower-right n right i s positive found (suc j) l =
       cell-head file (suc j) (omega arith) ∙ left (headRight file (suc j) 2 (recordsIn (cellsOf file) (suc j))) _ (passes-not _ (found .lower (suc j) l))
 
 -- so where refusal 1 has passed, the header's head is right exactly where at least one is
 pub headed-first : (file : List ℕ) (heads : Heads) → Headed file heads → ltb 0 (heads .right) ≡ headRight file 0 1 0
 headed-first file heads h =
-    let some = whole-blocks file (h .right) .1 in
+    let positive = whole-blocks file (h .right) .1 in
     first-right file (blocksIn file) (heads .right) (omega arith) (h .heads-are) ∙ header-head file

@@ -28,15 +28,15 @@ right-length file h =
     record { has-header = omega arith; whole = omega arith; blocks-bounded = omega arith }
 
 -- "numbers little-endian", two bytes
-pub number-low : (file : List ℕ) (i : ℕ) → ((j : ℕ) → getD file j 0 < byteValues) → numberAt file i ≤ mostNumber
+pub number-bounded : (file : List ℕ) (i : ℕ) → ((j : ℕ) → getD file j 0 < byteValues) → numberAt file i ≤ mostNumber
 unfolding numberAt byteAt
-number-low file i h = omega (arith, h i, h (i + 1))
+number-bounded file i h = omega (arith, h i, h (i + 1))
 
 -- so C is one too, and no block has more than 84 records
-pub cells-low : (file : List ℕ) → ((j : ℕ) → getD file j 0 < byteValues) → cellsOf file ≤ mostNumber
+pub cells-bounded : (file : List ℕ) → ((j : ℕ) → getD file j 0 < byteValues) → cellsOf file ≤ mostNumber
 unfolding cellsOf
-cells-low file h = number-low file 10 h
+cells-bounded file h = number-bounded file 10 h
 
-pub records-few : (cells i : ℕ) → recordsIn cells i ≤ blockRecords
+pub records-bounded : (cells i : ℕ) → recordsIn cells i ≤ blockRecords
 unfolding recordsIn
-records-few cells i = omega arith
+records-bounded cells i = omega arith

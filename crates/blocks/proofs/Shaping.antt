@@ -58,8 +58,8 @@ module _ (file : List ℕ) where
   all-refused b e v = let told = v ∙ ap verdictOf e in (told ∙ sym (subst (BlocksOf file) e b), told)
 
   -- a header that is accepted has its head
-  pub some-head : (heads : Heads) → Headed file heads → judge header-checks ≡ Accepted → 0 < heads .right
+  pub heads-positive : (heads : Heads) → Headed file heads → judge header-checks ≡ Accepted → 0 < heads .right
   unfolding headerRight
-  some-head heads h e =
+  heads-positive heads h e =
       let right = passes-not (headerRight file) (all-pass header-checks e .0 0 (omega arith)) in
       ltb-true 0 (heads .right) (headed-first file heads h ∙ first-of (headRight file 0 1 0) _ _ _ _ _ _ _ right)

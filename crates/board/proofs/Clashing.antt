@@ -104,9 +104,9 @@ module _ (b : Board) (n : ℕ) where
         apart = λ c d l m h o u e. none-between (b .size) d l (omega arith) u;
       }
 
-  module _ (at : ℕ) (met : ℕ → Bool) (w : Met b n at met) (some : 0 < at) where
+  module _ (at : ℕ) (met : ℕ → Bool) (w : Met b n at met) (positive : 0 < at) where
     met-on : outputOf b n (at - 1) ≡ true
-    met-on = sym (keyed-net b n (at - 1)) ∙ last-member at (keyed b NetOf n) (at - 1) (w .top ∙ sym (above at some))
+    met-on = sym (keyed-net b n (at - 1)) ∙ last-member at (keyed b NetOf n) (at - 1) (w .top ∙ sym (above at positive))
 
     module _ (k : Position) (m : Net) (e : driverAt b (at - 1) ≡ Of k m) where
       own : controlFor b (at - 1) ≡ k .0
@@ -203,20 +203,20 @@ module _ (file t : List ℕ) (chains : Chains file NetOf t) (n : ℕ) where
   meeting-start l at e met none = rw (e, chains .linked .head n l) (met-none (boardOf file) n met none)
 
   pub meeting-on : (at cell : ℕ) (met : ℕ → Bool) → Meeting at met → 0 < at → cell ≡ at - 1 → outputOf (boardOf file) n cell ≡ true
-  meeting-on at cell met w some e = rw e (met-on (boardOf file) n at met w some)
+  meeting-on at cell met w positive e = rw e (met-on (boardOf file) n at met w positive)
 
   pub meeting-again : (at cell : ℕ) (met : ℕ → Bool) → Meeting at met → 0 < at → cell ≡ at - 1 → (k : Position) (m : Net) → driverAt (boardOf file) cell ≡ Of k m
       → met (k .0) ≡ true → true ≡ clashing (boardOf file) n
-  meeting-again at cell met w some e k m d t = again-clashes (boardOf file) n at met w some k m (ap (driverAt (boardOf file)) (sym e) ∙ d) t
+  meeting-again at cell met w positive e k m d t = again-clashes (boardOf file) n at met w positive k m (ap (driverAt (boardOf file)) (sym e) ∙ d) t
 
   pub meeting-next : (at cell next : ℕ) (met more : ℕ → Bool) → Meeting at met → 0 < at → cell ≡ at - 1 → (k : Position) (m : Net) → driverAt (boardOf file) cell ≡ Of k m
       → met (k .0) ≡ false → more ≡ plus met (k .0) → next ≡ linkIn NetOf t cell → Meeting next more
   unfolding boardOf
-  meeting-next at cell next met more w some e k m d new grown f =
+  meeting-next at cell next met more w positive e k m d new grown f =
       let u = w .under in
-      let on = keyed-net (boardOf file) n (at - 1) ∙ met-on (boardOf file) n at met w some in
+      let on = keyed-net (boardOf file) n (at - 1) ∙ met-on (boardOf file) n at met w positive in
       rw (f, e, chains .linked .link (at - 1) n (omega arith) on)
-      (met-next (boardOf file) n at met w some k m (ap (driverAt (boardOf file)) (sym e) ∙ d) more new grown)
+      (met-next (boardOf file) n at met w positive k m (ap (driverAt (boardOf file)) (sym e) ∙ d) more new grown)
 
   pub meeting-ended : (at : ℕ) (met : ℕ → Bool) → Meeting at met → at ≤ 0 → false ≡ clashing (boardOf file) n
   meeting-ended at met w z = let e : at ≡ 0 = omega arith in sym (met-ended (boardOf file) n met (rw e at w))
@@ -226,7 +226,7 @@ module _ (file t : List ℕ) (chains : Chains file NetOf t) (n : ℕ) where
   unfolding boardOf
   none-alone l z = record { only = λ c d lc ld o u. absurd (none-between (boardOf file) n (cellsOf file) c (let h = chains .linked .head n l in omega arith) lc o) }
 
-  module _ (l : n < room NetOf) (at cell : ℕ) (e : at ≡ headIn NetOf t n) (some : 0 < at) (named : cell ≡ at - 1) where
+  module _ (l : n < room NetOf) (at cell : ℕ) (e : at ≡ headIn NetOf t n) (positive : 0 < at) (named : cell ≡ at - 1) where
     top : last (cellsOf file) (keyed (boardOf file) NetOf n) ≡ at
     top = sym (e ∙ chains .linked .head n l)
 

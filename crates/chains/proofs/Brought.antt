@@ -35,12 +35,12 @@ module _ (b : Board) where
   unfolding driverOf
   brings-control k m c h = keyed-control b k c ∙ both (right (onNet b m c) (left (driverOf b m c) _ h)) (right (driverOf b m c) h)
 
-  -- the same for the control cells above low alone
+  -- the same for the control cells above floor alone
   abbrev pub bringsAbove : ℕ → ℕ → ℕ → ℕ → Bool
-  bringsAbove low n j c = brings j n c && ltb low j
+  bringsAbove floor n j c = brings j n c && ltb floor j
 
-  pub brings-net : (low n j c : ℕ) → bringsAbove low n j c ≡ true → keyed b NetOf n c ≡ true
-  brings-net low n j c h = keyed-net b n c ∙ driver-output b n c (left (driverOf b n c) _ (left (brings j n c) _ h))
+  pub brings-net : (floor n j c : ℕ) → bringsAbove floor n j c ≡ true → keyed b NetOf n c ≡ true
+  brings-net floor n j c h = keyed-net b n c ∙ driver-output b n c (left (driverOf b n c) _ (left (brings j n c) _ h))
 
   net-grown : (k c : ℕ) (f : ℕ → Bool) → keyed b ControlCell k c ≡ true → (m : ℕ) → plus f (netOf (b .cell c)) m ≡ (brings k m c || f m)
   unfolding driverOf onNet
@@ -54,9 +54,9 @@ module _ (b : Board) where
   net-brought k c n f g e h on m =
       ap (λ (s : ℕ → Bool). s m) h ∙ ap (λ (x : ℕ). plus f x m) e ∙ net-grown k c f on m
 
-  pub control-grown : (low n c : ℕ) (f : ℕ → Bool) → keyed b NetOf n c ≡ true → (j : ℕ) → withControl b low c f j ≡ (bringsAbove low n j c || f j)
+  pub control-grown : (floor n c : ℕ) (f : ℕ → Bool) → keyed b NetOf n c ≡ true → (j : ℕ) → withControl b floor c f j ≡ (bringsAbove floor n j c || f j)
   unfolding withControl driverOf outputOf
-  control-grown low n c f h j = rw (left (onNet b n c) _ (sym (keyed-net b n c) ∙ h))
+  control-grown floor n c f h j = rw (left (onNet b n c) _ (sym (keyed-net b n c) ∙ h))
 
   -- the driver at c shares its net with control cell j; the same for the control cells above k alone
   abbrev pub shares : ℕ → ℕ → ℕ → Bool
@@ -84,10 +84,10 @@ pub all-nets : (file : List ℕ) (k : ℕ) (s : ℕ → Bool) → ((m : ℕ) →
 unfolding drives boardOf
 all-nets file k s h = fun-ext h
 
-pub all-controls : (file : List ℕ) (low n : ℕ) (f s : ℕ → Bool) → ((j : ℕ) → s j ≡ (f j || any (cellsOf file) (bringsAbove (boardOf file) low n j))) → s ≡ withControls (boardOf file) low n f
+pub all-controls : (file : List ℕ) (floor n : ℕ) (f s : ℕ → Bool) → ((j : ℕ) → s j ≡ (f j || any (cellsOf file) (bringsAbove (boardOf file) floor n j))) → s ≡ withControls (boardOf file) floor n f
 unfolding withControls drives boardOf
-all-controls file low n f s h =
-    fun-ext (λ j. h j ∙ or-comm (f j) _ ∙ ap (λ (x : Bool). x || f j) (any-both (cellsOf file) (brings (boardOf file) j n) (ltb low j)))
+all-controls file floor n f s h =
+    fun-ext (λ j. h j ∙ or-comm (f j) _ ∙ ap (λ (x : Bool). x || f j) (any-both (cellsOf file) (brings (boardOf file) j n) (ltb floor j)))
 
 -- a driver's own net is in its control cell's set
 pub own-net : (b : Board) (k c : ℕ) → c < b .size → keyed b ControlCell k c ≡ true → drives b k (netOf (b .cell c)) ≡ true

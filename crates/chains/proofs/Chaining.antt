@@ -84,7 +84,7 @@ linked-none b by t z =
 
 -- another table that has the same family has the same chains
 pub linked-same : (b : Board) (by : By) (n : ℕ) (t t′ : List ℕ) → n ≤ mostCells → Same (linksFrom by) (linksFrom by + (mostCells + room by)) t t′ → Linked b by n t → Linked b by n t′
-linked-same b by n t t′ few same l =
+linked-same b by n t t′ bounded same l =
     record {
       head = λ k m. same .entry (linksFrom by + (mostCells + k)) (omega arith) (omega arith) ∙ l .head k m;
       link = λ c k m h. same .entry (linksFrom by + c) (omega arith) (omega arith) ∙ l .link c k m h;
@@ -151,7 +151,7 @@ module _ (b : Board) (by : By) (c : ℕ) (t : List ℕ) (so-far : Linked b by c 
 pub linked-free : (b : Board) (by : By) (n : ℕ) (t : List ℕ) (c v : ℕ) → keyAt b by c ≡ Nothing → c < mostCells → v ≤ c → linksFrom by + c < length t
     → Linked b by n t → Linked b by n (set t (linksFrom by + c) v)
 unfolding keyed isKey
-linked-free b by n t c v e few low fits l =
+linked-free b by n t c v e bounded no-higher fits l =
     record {
       head = λ k m. getD-set-other t (linksFrom by + c) (linksFrom by + (mostCells + k)) v 0 (λ (s : linksFrom by + (mostCells + k) ≡ linksFrom by + c). omega arith) ∙ l .head k m;
       link = λ d k m h. there d (λ (s : d ≡ c). false≢true (rw (s, e) at h)) ∙ l .link d k m h;

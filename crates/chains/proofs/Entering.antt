@@ -24,7 +24,7 @@ use Rattle.chains.specs.Filling.{Entered, Filled}
 use Rattle.chains.specs.declared.Key.the-variants.{Of, Nothing}
 use Rattle.chains.proofs.TableLaws.{spliced-long, spliced-apart, more-long, more-before}
 use Rattle.chains.proofs.Chaining.{linked-none, linked-same, linked-skip, linked-add, linked-free, key-below}
-use Rattle.chains.proofs.CountLaws.{counted-same, counted-skip, counted-add, counts-few}
+use Rattle.chains.proofs.CountLaws.{counted-same, counted-skip, counted-add, counts-bounded}
 
 never : (x : ℕ) → Of x ≡ Nothing → ⊥
 never x e = let z : _≡_ {A = ℕ} 0 1 = cc in omega arith
@@ -166,7 +166,7 @@ module _ (file : List ℕ) (c : ℕ) (t : List ℕ) (so-far : Entered file c t) 
     pub driver-fits : (c < mostCells) × (n .0 < mostNets) × (k .0 < mostCells) × (countIn both (n .0) < mostCells)
     driver-fits =
         let f = position-fits in
-        let o = counts-few file c both both-counts (n .0) (net-fits (n .0) own) in
+        let o = counts-bounded file c both both-counts (n .0) (net-fits (n .0) own) in
         (position-fits, net-fits (n .0) own, control-fits, omega arith)
 
     both-long : length both ≡ tableSize
@@ -209,14 +209,14 @@ module _ (file t : List ℕ) (k v : ℕ) (h : Filled file t) (l : k < cellsOf fi
   free-fits = let f = laid file (shaped file (h .by-net .checked)) .cells .at-most in omega arith
 
   pub filled-free : driverAt (boardOf file) k ≡ driver.Nothing → v ≤ k → Filled file (set t (linksFrom ControlCell + k) v)
-  filled-free d low =
+  filled-free d no-higher =
       let position-fits = free-fits in
       let fits : linksFrom ControlCell + k < length t = (let q = h .long in omega arith) in
       record {
         long = length-set t (linksFrom ControlCell + k) v ∙ h .long;
         by-control = record {
           checked = h .by-control .checked;
-          linked = linked-free (boardOf file) ControlCell _ t k v (no-control _ _ d) position-fits low fits (h .by-control .linked);
+          linked = linked-free (boardOf file) ControlCell _ t k v (no-control _ _ d) position-fits no-higher fits (h .by-control .linked);
         };
         by-net = grown-same file NetOf _ t _ (omega arith) (h .by-net) (stored-apart _ v t _ _ (λ j p q (e : j ≡ linksFrom ControlCell + k). omega arith));
         counted = counted-same file _ t _ (stored-apart _ v t _ _ (λ j p q (e : j ≡ linksFrom ControlCell + k). omega arith)) (h .counted);

@@ -21,37 +21,37 @@ use Rattle.chains.specs.Sharing.{withControl, withSharers, withControls}
 module _ (b : Board) (c : ℕ) (f : ℕ → Bool) where
   -- a cell that drives nothing brings nothing
   module _ (e : driverAt b c ≡ Nothing) where
-    pub no-control : (low : ℕ) → f ≡ withControl b low c f
+    pub no-control : (floor : ℕ) → f ≡ withControl b floor c f
     unfolding withControl
-    no-control low = fun-ext (λ j. rw (no-driver b c e))
+    no-control floor = fun-ext (λ j. rw (no-driver b c e))
 
-    pub no-sharers : (low : ℕ) → f ≡ withSharers b low c f
+    pub no-sharers : (floor : ℕ) → f ≡ withSharers b floor c f
     unfolding withSharers
-    no-sharers low = fun-ext (λ j. rw (no-driver b c e))
+    no-sharers floor = fun-ext (λ j. rw (no-driver b c e))
 
   -- a driver brings its net, its control cell, and its net's control cells
   module _ (k : Position) (n : Net) (e : driverAt b c ≡ Of k n) where
-    -- its control cell, where that is above low
-    control-at : (low j : ℕ) → withControl b low c f j ≡ (eqb (k .0) j && ltb low j || f j)
+    -- its control cell, where that is above floor
+    control-at : (floor j : ℕ) → withControl b floor c f j ≡ (eqb (k .0) j && ltb floor j || f j)
     unfolding withControl
-    control-at low j = rw (is-driver b c k n e .0, is-driver b c k n e .1)
+    control-at floor j = rw (is-driver b c k n e .0, is-driver b c k n e .1)
 
-    pub one-control : (low : ℕ) → low < k .0 → plus f (k .0) ≡ withControl b low c f
-    one-control low l = fun-ext (λ j. ap (λ (x : Bool). x || f j) (eqb-back j (k .0) ∙ above j) ∙ sym (control-at low j))
+    pub one-control : (floor : ℕ) → floor < k .0 → plus f (k .0) ≡ withControl b floor c f
+    one-control floor l = fun-ext (λ j. ap (λ (x : Bool). x || f j) (eqb-back j (k .0) ∙ above j) ∙ sym (control-at floor j))
       where
-        above : (j : ℕ) → eqb (k .0) j ≡ (eqb (k .0) j && ltb low j)
-        above j = same-test _ _ (λ t. both t (ap (ltb low) (sym (eqb-true (k .0) j t)) ∙ lt-ltb low (k .0) l)) (λ t. left (eqb (k .0) j) _ t)
+        above : (j : ℕ) → eqb (k .0) j ≡ (eqb (k .0) j && ltb floor j)
+        above j = same-test _ _ (λ t. both t (ap (ltb floor) (sym (eqb-true (k .0) j t)) ∙ lt-ltb floor (k .0) l)) (λ t. left (eqb (k .0) j) _ t)
 
-    pub low-control : (low : ℕ) → k .0 ≤ low → f ≡ withControl b low c f
-    low-control low l = fun-ext (λ j. ap (λ (x : Bool). x || f j) (sym (below j)) ∙ sym (control-at low j))
+    pub control-not-above : (floor : ℕ) → k .0 ≤ floor → f ≡ withControl b floor c f
+    control-not-above floor l = fun-ext (λ j. ap (λ (x : Bool). x || f j) (sym (below j)) ∙ sym (control-at floor j))
       where
-        below : (j : ℕ) → (eqb (k .0) j && ltb low j) ≡ false
+        below : (j : ℕ) → (eqb (k .0) j && ltb floor j) ≡ false
         below j =
-            fails-if _ (λ t. let s = eqb-true (k .0) j (left (eqb (k .0) j) _ t) in let m = ltb-true low j (right (eqb (k .0) j) t) in omega arith)
+            fails-if _ (λ t. let s = eqb-true (k .0) j (left (eqb (k .0) j) _ t) in let m = ltb-true floor j (right (eqb (k .0) j) t) in omega arith)
 
-    pub its-sharers : (low : ℕ) → withControls b low (n .0) f ≡ withSharers b low c f
+    pub its-sharers : (floor : ℕ) → withControls b floor (n .0) f ≡ withSharers b floor c f
     unfolding withSharers withControls
-    its-sharers low = fun-ext (λ j. rw (is-driver b c k n e .0, is-driver b c k n e .2))
+    its-sharers floor = fun-ext (λ j. rw (is-driver b c k n e .0, is-driver b c k n e .2))
 
 -- on a whole file they fit
 module _ (file : List ℕ) (c : ℕ) (w : Whole file c) (k : Position) (n : Net) (e : driverAt (boardOf file) c ≡ Of k n) where

@@ -34,7 +34,7 @@ above at h = omega arith
 
 -- the cell that a walk has come to lies below what it started from
 pub below-named : (n at cell : ℕ) → at ≤ n → 0 < at → cell ≡ at - 1 → cell < n
-below-named n at cell under some named = omega arith
+below-named n at cell under positive named = omega arith
 
 -- a cell of the file that has key k
 pub record Named (file : List ℕ) (by : By) (k cell : ℕ) : Type 0 where
@@ -43,15 +43,15 @@ pub record Named (file : List ℕ) (by : By) (k cell : ℕ) : Type 0 where
 
 module _ (file : List ℕ) (by : By) (t : List ℕ) (chains : Chains file by t) where
   -- a head or a link is no higher than it may be
-  pub head-low : (k : ℕ) → k < room by → headIn by t k ≤ cellsOf file
-  head-low k l = rw (chains .linked .head k l) (last-le (cellsOf file) (keyed (boardOf file) by k))
+  pub head-bounded : (k : ℕ) → k < room by → headIn by t k ≤ cellsOf file
+  head-bounded k l = rw (chains .linked .head k l) (last-le (cellsOf file) (keyed (boardOf file) by k))
 
-  pub link-low : (c : ℕ) → c < cellsOf file → linkIn by t c ≤ c
-  link-low c l = chains .linked .lower c (cell-fits file (chains .checked) c l)
+  pub link-bounded : (c : ℕ) → c < cellsOf file → linkIn by t c ≤ c
+  link-bounded c l = chains .linked .lower c (cell-fits file (chains .checked) c l)
 
   -- so a walk goes down
   pub walk-falls : (at cell next : ℕ) → cell < cellsOf file → 0 < at → cell ≡ at - 1 → next ≡ linkIn by t cell → next < at
-  walk-falls at cell next l some named e = let low = link-low cell l in omega arith
+  walk-falls at cell next l positive named e = let bounded = link-bounded cell l in omega arith
 
   module _ (k : ℕ) (q : ℕ → Bool) (only : (c : ℕ) → q c ≡ true → keyed (boardOf file) by k c ≡ true) where
     abbrev pub Walk : ℕ → ℕ → Type 0
@@ -67,20 +67,20 @@ module _ (file : List ℕ) (by : By) (t : List ℕ) (chains : Chains file by t) 
 
     -- the step's cell, which `at` names, is on the chain
     pub on-chain : (n at cell : ℕ) → Walk n at → 0 < at → cell ≡ at - 1 → keyed (boardOf file) by k cell ≡ true
-    on-chain n at cell w some e =
-        let up : Walk n (suc (at - 1)) = rw (above at some) w in
+    on-chain n at cell w positive e =
+        let up : Walk n (suc (at - 1)) = rw (above at positive) w in
         rw e (walk-member _ q only n (at - 1) up)
 
     -- one step further
     pub step : (n at cell next : ℕ) → n ≤ cellsOf file → Walk n at → 0 < at → cell ≡ at - 1 → q cell ≡ false → next ≡ linkIn by t cell → Walk n next
-    step n at cell next l w some e f g =
-        let up : Walk n (suc (at - 1)) = rw (above at some) w in
+    step n at cell next l w positive e f g =
+        let up : Walk n (suc (at - 1)) = rw (above at positive) w in
         let u = w .under in
         walk-next _ q only n (at - 1) next up (ap q (sym e) ∙ f) (g ∙ ap (linkIn by t) e ∙ chains .linked .link (at - 1) k (omega arith) (walk-member _ q only n (at - 1) up))
 
     pub hit : (n at cell : ℕ) → Walk n at → 0 < at → cell ≡ at - 1 → q cell ≡ true → any n q ≡ true
-    hit n at cell w some e h =
-        let up : Walk n (suc (at - 1)) = rw (above at some) w in
+    hit n at cell w positive e h =
+        let up : Walk n (suc (at - 1)) = rw (above at positive) w in
         walk-found _ q only n (at - 1) up (ap q (sym e) ∙ h)
 
     pub missed : (n at : ℕ) → Walk n at → at ≤ 0 → any n q ≡ false
@@ -88,13 +88,13 @@ module _ (file : List ℕ) (by : By) (t : List ℕ) (chains : Chains file by t) 
 
   -- what a head names
   pub head-fits : (k : ℕ) → k < room by → headIn by t k ≤ mostCells
-  head-fits k l = let low = head-low k l in let fit = cells-fit file (chains .checked) in omega arith
+  head-fits k l = let bounded = head-bounded k l in let fit = cells-fit file (chains .checked) in omega arith
 
   pub named-head : (k : ℕ) → k < room by → (at cell : ℕ) → at ≡ headIn by t k → 0 < at → cell ≡ at - 1 → Named file by k cell
-  named-head k l at cell e some named =
-      let low = head-low k l in
+  named-head k l at cell e positive named =
+      let bounded = head-bounded k l in
       let own : ℕ → Bool = keyed (boardOf file) by k in
-      record { below = omega arith; on = on-chain k own (λ d h. h) _ at cell (from-head k own (λ d h. h) l at e) some named }
+      record { below = omega arith; on = on-chain k own (λ d h. h) _ at cell (from-head k own (λ d h. h) l at e) positive named }
 
   -- a head that is none: no position has the key
   pub none-keyed : (k : ℕ) → k < room by → headIn by t k ≡ 0 → (c : ℕ) → c < cellsOf file → keyed (boardOf file) by k c ≡ false

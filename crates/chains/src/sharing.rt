@@ -42,54 +42,54 @@ pub fn nets_of(file: &[u8], table: &[u16; TABLE], k: Position) -> NetSet
 }
 
 // The set with the control cell of the driver at c besides, if c is one and its control cell is above
-// low.
-fn add_control(file: &[u8], c: Position, low: Position, set: CellSet) -> CellSet
+// floor.
+fn add_control(file: &[u8], c: Position, floor: Position, set: CellSet) -> CellSet
     requires { ⌜ Whole (now file) (c .0) ⌝ }
-    ensures { λ r. ⌜ member (r .words) ≡ withControl (boardOf (now (file .entry))) (low .0) (c .0) (member (set .words)) ⌝ }
+    ensures { λ r. ⌜ member (r .words) ≡ withControl (boardOf (now (file .entry))) (floor .0) (c .0) (member (set .words)) ⌝ }
 {
     let driver = driver_at(file, c);
     let Driver::Of(k, _) = driver else {
         return set;
     };
-    if k.0 <= low.0 {
+    if k.0 <= floor.0 {
         return set;
     }
     set.with(k)
 }
 
-// The set with the control cells of net n above low besides.
-fn add_controls(file: &[u8], table: &[u16; TABLE], n: Net, low: Position, met: CellSet) -> CellSet
+// The set with the control cells of net n above floor besides.
+fn add_controls(file: &[u8], table: &[u16; TABLE], n: Net, floor: Position, met: CellSet) -> CellSet
     requires { ⌜ Chains (now file) NetOf (now table) ⌝ }
     requires { ⌜ n .0 < netsOf (now file) ⌝ }
-    ensures { λ r. ⌜ member (r .words) ≡ withControls (boardOf (now (file .entry))) (low .0) (n .0) (member (met .words)) ⌝ }
+    ensures { λ r. ⌜ member (r .words) ≡ withControls (boardOf (now (file .entry))) (floor .0) (n .0) (member (met .words)) ⌝ }
 {
     let mut more = met;
     let mut at = net_head(table, n);
     while 0 < at {
         let c = cell_named(at);
-        more = add_control(file, c, low, more);
+        more = add_control(file, c, floor, more);
         at = net_link(table, c);
     }
     more
 }
 
-// The set with the control cells above low of the net of the driver at c besides, if c is one.
+// The set with the control cells above floor of the net of the driver at c besides, if c is one.
 fn add_sharers(
     file: &[u8],
     table: &[u16; TABLE],
     c: Position,
-    low: Position,
+    floor: Position,
     met: CellSet,
 ) -> CellSet
     requires { ⌜ Chains (now file) NetOf (now table) ⌝ }
     requires { ⌜ c .0 < cellsOf (now file) ⌝ }
-    ensures { λ r. ⌜ member (r .words) ≡ withSharers (boardOf (now (file .entry))) (low .0) (c .0) (member (met .words)) ⌝ }
+    ensures { λ r. ⌜ member (r .words) ≡ withSharers (boardOf (now (file .entry))) (floor .0) (c .0) (member (met .words)) ⌝ }
 {
     let driver = driver_at(file, c);
     let Driver::Of(_, n) = driver else {
         return met;
     };
-    add_controls(file, table, n, low, met)
+    add_controls(file, table, n, floor, met)
 }
 
 // The control cells above k that share a net with it.

@@ -15,16 +15,16 @@ use Rattle.rules.proofs.Shape.{laid, shaped}
 use Rattle.select.specs.Turns.{Ready}
 use Rattle.io.specs.Digits.{Fewest}
 
-pub few-cells : (file t : List ℕ) (cells : ℕ) → Ready file t → cells ≡ cellsOf file → cells ≤ mostCells
-few-cells file t cells r e = let f = laid file (shaped file (r .by-control .checked)) .cells .at-most in omega arith
+pub cells-within : (file t : List ℕ) (cells : ℕ) → Ready file t → cells ≡ cellsOf file → cells ≤ mostCells
+cells-within file t cells r e = let f = laid file (shaped file (r .by-control .checked)) .cells .at-most in omega arith
 
 pub row-short : (cells : ℕ) → cells ≤ mostCells → rowBytes cells ≤ mostBytes
 unfolding rowBytes ceil
 row-short cells l = omega arith
 
 -- a number of 64 bits has at most 20 digits
-pub few-digits : (n k : ℕ) → n < 2 ^ 64 → Fewest 10 1 n k → k ≤ 20
-few-digits n k small f =
+pub digits-within : (n k : ℕ) → n < 2 ^ 64 → Fewest 10 1 n k → k ≤ 20
+digits-within n k small f =
     ⊎-elim
     (λ (s : k < 21). omega arith)
     (λ (l : 21 ≤ k).

@@ -51,10 +51,10 @@ bytes-more test [] byte = omega arith
 bytes-more test (x ∷ bytes) byte = let r = bytes-more test bytes byte in omega arith
 
 -- no count is above the number of bytes
-pub bytes-few : (test : ℕ → Bool) (bytes : List ℕ) → bytesThat test bytes ≤ length bytes
+pub bytes-that-bounded : (test : ℕ → Bool) (bytes : List ℕ) → bytesThat test bytes ≤ length bytes
 unfolding bytesThat
-bytes-few test [] = omega arith
-bytes-few test (x ∷ bytes) = let r = bytes-few test bytes in let d = digit-bounded (test x) _ refl in omega arith
+bytes-that-bounded test [] = omega arith
+bytes-that-bounded test (x ∷ bytes) = let r = bytes-that-bounded test bytes in let d = digit-bounded (test x) _ refl in omega arith
 
 pub counts-more : (bytes : List ℕ) (byte : ℕ) → countsOf (bytes ++ (byte ∷ [])) ≡ oneMore (countsOf bytes) byte
 unfolding countsOf oneMore
@@ -111,15 +111,15 @@ module _ (tests : Tests) where
         let long = marks-long n in
         ap length (m .buffer) ∙ simp (length-append, length-drop) (omega arith)
 
-    pub marked-few : {n : ℕ} {after : List ℕ} {counts : Counts} → Marked tests n before after counts → n ≤ mostNets → CountsBounded counts
+    pub marked-bounded : {n : ℕ} {after : List ℕ} {counts : Counts} → Marked tests n before after counts → n ≤ mostNets → CountsBounded counts
     unfolding countsOf
-    marked-few {n} m l =
+    marked-bounded {n} m l =
         let long = marks-long n in
         rw (m .counted)
         (record {
-          pass = omega (arith, bytes-few isPass (marksIn tests n));
-          fail = omega (arith, bytes-few isFail (marksIn tests n));
-          unsure = omega (arith, bytes-few isUnsure (marksIn tests n));
+          pass = omega (arith, bytes-that-bounded isPass (marksIn tests n));
+          fail = omega (arith, bytes-that-bounded isFail (marksIn tests n));
+          unsure = omega (arith, bytes-that-bounded isUnsure (marksIn tests n));
         })
 
 -- sets that are the tests' nets give the tests' marks

@@ -18,7 +18,7 @@ use Rattle.rules.specs.declared.Step.the-variants.{Base, Inserted}
 use Rattle.words.specs.Sets.{netWords, unlike}
 use Rattle.plan.specs.declared.steps.Plan.{Plan}
 use Rattle.plan.specs.Plans.{basesFor, mix, mostPatterns, Small, Within, startOf}
-use Rattle.plan.proofs.StepLaws.{size, size-low, extra-low, step-base, step-inserted}
+use Rattle.plan.proofs.StepLaws.{size, size-bounded, extra-bounded, step-base, step-inserted}
 
 -- a net that differs and changes sides has its new value, another keeps its old
 mixed : (a b l : Bool) → xor a (xor a b && l) ≡ cond (xor a b && l) b a
@@ -49,12 +49,12 @@ unfolding mix among
 mix-none old new = fun-ext (λ m. rw (le-ltb (count m (unlike old new)) 0 (omega arith), and-false (unlike old new m)))
 
 -- the nets that have changed sides are a small number
-pub changed-low : (p : Plan) (k : ℕ) → Small p → k ≤ 64 * netWords → k * p .limit ≤ 64 * netWords * mostNumber
-changed-low p k s l = le-trans (mul-le-mul-right (p .limit) l) (mul-le-mul-left (64 * netWords) (s .limit-bounded))
+pub changed-bounded : (p : Plan) (k : ℕ) → Small p → k ≤ 64 * netWords → k * p .limit ≤ 64 * netWords * mostNumber
+changed-bounded p k s l = le-trans (mul-le-mul-right (p .limit) l) (mul-le-mul-left (64 * netWords) (s .limit-bounded))
 
 -- the group of base vector i, which those inserted after it have too
-pub group-low : (p : Plan) (i : ℕ) → Small p → i < p .groups * p .wide → 1 + i / p .wide ≤ mostNumber * mostPatterns
-group-low p i s l = let a = div-le-self i (p .wide) in omega (arith, size-low p s)
+pub group-bounded : (p : Plan) (i : ℕ) → Small p → i < p .groups * p .wide → 1 + i / p .wide ≤ mostNumber * mostPatterns
+group-bounded p i s l = let a = div-le-self i (p .wide) in omega (arith, size-bounded p s)
 
 pub group-base : (p : Plan) (i : ℕ) → 1 + i / p .wide ≡ vectorOf (basesFor p) (Base i) .group
 unfolding vectorOf basesFor
@@ -73,7 +73,7 @@ steps-within p s =
     (λ b l k h. inside b l k (rw (length-table (insertedAfter (basesFor p) b) (λ t. Inserted b (t + 1))) at h))
   where
     inside : (b : ℕ) → b < p .groups * p .wide → (k : ℕ) → k < insertedAfter (basesFor p) b → Within p (getD (table (insertedAfter (basesFor p) b) (λ t. Inserted b (t + 1))) k (Base 0))
-    inside b l k h = rw (table-at (insertedAfter (basesFor p) b) (λ t. Inserted b (t + 1)) (Base 0) h) (l, let e = extra-low p s b in omega arith)
+    inside b l k h = rw (table-at (insertedAfter (basesFor p) b) (λ t. Inserted b (t + 1)) (Base 0) h) (l, let e = extra-bounded p s b in omega arith)
 
 -- the values of the k-th vector of part i, the base vector being the 0th
 pub value-at :

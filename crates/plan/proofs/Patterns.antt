@@ -26,26 +26,26 @@ lowWords =
 right : ℕ → ℕ → Bool
 right s k = not (xor (bit (getD lowWords s 0) k) (bit (k + 1) s))
 
-low-first : (s k : ℕ) → s < 6 → k < 64 → bit (getD lowWords s 0) k ≡ bit (k + 1) s
+low-digit-first : (s k : ℕ) → s < 6 → k < 64 → bit (getD lowWords s 0) k ≡ bit (k + 1) s
 unfolding right all xor bit
-low-first s k l h = alike _ _ (fails-not _ (all-at 64 (right s) (all-at 6 (λ s. all 64 (right s)) refl l) h))
+low-digit-first s k l h = alike _ _ (fails-not _ (all-at 64 (right s) (all-at 6 (λ s. all 64 (right s)) refl l) h))
 
 -- and so are those of the next 64 codes, and so on
 same-digit : (s x y : ℕ) → x / 2 ^ s % 2 ≡ y / 2 ^ s % 2 → bit x s ≡ bit y s
 unfolding bit
 same-digit s x y e = ap (λ (d : ℕ). eqb d 1) e
 
-low-repeats : (s w k : ℕ) → s < 6 → bit (64 * w + k + 1) s ≡ bit (k + 1) s
-low-repeats zero w k l = same-digit 0 (64 * w + k + 1) (k + 1) (omega arith)
-low-repeats (suc zero) w k l = same-digit 1 (64 * w + k + 1) (k + 1) (omega arith)
-low-repeats (suc (suc zero)) w k l = same-digit 2 (64 * w + k + 1) (k + 1) (omega arith)
-low-repeats (suc (suc (suc zero))) w k l = same-digit 3 (64 * w + k + 1) (k + 1) (omega arith)
-low-repeats (suc (suc (suc (suc zero)))) w k l = same-digit 4 (64 * w + k + 1) (k + 1) (omega arith)
-low-repeats (suc (suc (suc (suc (suc zero))))) w k l = same-digit 5 (64 * w + k + 1) (k + 1) (omega arith)
-low-repeats (suc (suc (suc (suc (suc (suc s)))))) w k l = absurd (omega arith)
+low-digit-repeats : (s w k : ℕ) → s < 6 → bit (64 * w + k + 1) s ≡ bit (k + 1) s
+low-digit-repeats zero w k l = same-digit 0 (64 * w + k + 1) (k + 1) (omega arith)
+low-digit-repeats (suc zero) w k l = same-digit 1 (64 * w + k + 1) (k + 1) (omega arith)
+low-digit-repeats (suc (suc zero)) w k l = same-digit 2 (64 * w + k + 1) (k + 1) (omega arith)
+low-digit-repeats (suc (suc (suc zero))) w k l = same-digit 3 (64 * w + k + 1) (k + 1) (omega arith)
+low-digit-repeats (suc (suc (suc (suc zero)))) w k l = same-digit 4 (64 * w + k + 1) (k + 1) (omega arith)
+low-digit-repeats (suc (suc (suc (suc (suc zero))))) w k l = same-digit 5 (64 * w + k + 1) (k + 1) (omega arith)
+low-digit-repeats (suc (suc (suc (suc (suc (suc s)))))) w k l = absurd (omega arith)
 
-pub low-word : (s w k : ℕ) → s < 6 → k < 64 → bit (getD lowWords s 0) k ≡ bit (64 * w + k + 1) s
-low-word s w k l h = low-first s k l h ∙ sym (low-repeats s w k l)
+pub low-digit-word : (s w k : ℕ) → s < 6 → k < 64 → bit (getD lowWords s 0) k ≡ bit (64 * w + k + 1) s
+low-digit-word s w k l h = low-digit-first s k l h ∙ sym (low-digit-repeats s w k l)
 
 -- a higher digit is that of the word's number, but at the last net that of the next word's
 pub high-word : (s w v k : ℕ) → v ≡ w + 1 → 6 ≤ s → k < 64 → cond (ltb k 63) (bit w (s - 6)) (bit v (s - 6)) ≡ bit (64 * w + k + 1) s
@@ -77,7 +77,7 @@ by-itself : (a : Bool) → a ≡ cond a true false
 by-itself true = refl
 by-itself false = refl
 
-pub spread-is : (low high : Bool) (k : ℕ) → k < 64 → bit (spreadOf low high) k ≡ cond (ltb k 63) low high
+pub spread-is : (lower top : Bool) (k : ℕ) → k < 64 → bit (spreadOf lower top) k ≡ cond (ltb k 63) lower top
 spread-is true true k h = bit-ones 64 k ∙ lt-ltb k 64 h ∙ either-way (ltb k 63) true
 spread-is true false k h = bit-ones 63 k ∙ by-itself (ltb k 63)
 spread-is false true k h =

@@ -21,7 +21,7 @@ use Rattle.words.specs.Sets.{upTo}
 use Rattle.plan.specs.declared.steps.Plan.{Plan}
 use Rattle.plan.specs.Plans.{basesFor, mostPatterns, Small}
 use Rattle.plan.specs.Planning.{PlanOf}
-use Rattle.plan.proofs.WidthLaws.{width-some, width-low}
+use Rattle.plan.proofs.WidthLaws.{width-positive, width-bounded}
 
 -- the plan that the board's numbers make
 own-plan : Board → Plan
@@ -52,10 +52,10 @@ unfolding totalOf planOf
 total-is b p h = ap (λ (s : Bases). length (stepsOf s)) (bases-are b p h)
 
 -- no larger than m, where each is
-largest-low : (n m : ℕ) (f : ℕ → ℕ) → ((i : ℕ) → i < n → f i ≤ m) → largest n f ≤ m
+largest-bounded : (n m : ℕ) (f : ℕ → ℕ) → ((i : ℕ) → i < n → f i ≤ m) → largest n f ≤ m
 unfolding largest
-largest-low zero m f h = omega arith
-largest-low (suc n) m f h = let a = largest-low n m f (λ i l. h i (omega arith)) in let d = h n (omega arith) in omega arith
+largest-bounded zero m f h = omega arith
+largest-bounded (suc n) m f h = let a = largest-bounded n m f (λ i l. h i (omega arith)) in let d = h n (omega arith) in omega arith
 
 board-nets : (file : List ℕ) → boardOf file .nets ≡ netsOf file
 unfolding boardOf
@@ -65,24 +65,24 @@ board-limit : (file : List ℕ) → boardOf file .limit ≡ limitOf file
 unfolding boardOf
 board-limit file = refl
 
-groups-some : (b : Board) → 1 ≤ groupsOf b
+groups-positive : (b : Board) → 1 ≤ groupsOf b
 unfolding groupsOf
-groups-some b = omega arith
+groups-positive b = omega arith
 
-wide-some : (b : Board) → 1 ≤ widthOf b
+wide-positive : (b : Board) → 1 ≤ widthOf b
 unfolding widthOf
-wide-some b = width-some (b .nets)
+wide-positive b = width-positive (b .nets)
 
-wide-low : (b : Board) (p : Plan) → PlanOf b p → p .nets ≤ mostNets → p .wide ≤ mostPatterns
+wide-bounded : (b : Board) (p : Plan) → PlanOf b p → p .nets ≤ mostNets → p .wide ≤ mostPatterns
 unfolding widthOf
-wide-low b p h n = let e = h .nets-are in let w = width-low mostWidth (b .nets) (omega arith) in let f = h .wide-are in omega arith
+wide-bounded b p h n = let e = h .nets-are in let w = width-bounded mostWidth (b .nets) (omega arith) in let f = h .wide-are in omega arith
 
 module _ (file : List ℕ) (ok : judge (boardChecks file) ≡ Accepted) where
-  pub groups-low : groupsOf (boardOf file) ≤ mostDrivers
+  pub groups-within : groupsOf (boardOf file) ≤ mostDrivers
   unfolding groupsOf
-  groups-low =
+  groups-within =
       let e = sound file ok .checked in
-      let l = largest-low (boardOf file .nets) mostDrivers (degree (boardOf file)) (λ n m. let d = degree-drivers (boardOf file) e n m in let f = e .drivers-bounded n m in omega arith) in
+      let l = largest-bounded (boardOf file .nets) mostDrivers (degree (boardOf file)) (λ n m. let d = degree-drivers (boardOf file) e n m in let f = e .drivers-bounded n m in omega arith) in
       omega arith
 
   -- checks 1 to 6 have accepted
@@ -96,12 +96,12 @@ module _ (file : List ℕ) (ok : judge (boardChecks file) ≡ Accepted) where
       let l = laid file (shaped file whole-file) in
       let n : p .nets ≤ mostNets = (let e = h .nets-are ∙ board-nets file in let f = l .nets .at-most in omega arith) in
       let limit : (0 < p .limit) × (p .limit ≤ mostLimit) = (let e = h .limit-are ∙ board-limit file in let f = l .limit .positive in let g = l .limit .at-most in (omega arith, omega arith)) in
-      let g : p .groups ≤ mostDrivers = rw (h .groups-are) groups-low in
-      let t : 1 ≤ p .groups = rw (h .groups-are) (groups-some (boardOf file)) in
+      let g : p .groups ≤ mostDrivers = rw (h .groups-are) groups-within in
+      let t : 1 ≤ p .groups = rw (h .groups-are) (groups-positive (boardOf file)) in
       record {
         nets = n;
-        coded = rw (h .wide-are) (wide-some (boardOf file));
-        narrow = wide-low (boardOf file) p h n;
+        coded = rw (h .wide-are) (wide-positive (boardOf file));
+        narrow = wide-bounded (boardOf file) p h n;
         turns = t;
         groups-bounded = omega (arith, g);
         limited = limit .0;

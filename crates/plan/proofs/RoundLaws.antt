@@ -12,14 +12,14 @@ use Rattle.base.specs.Counting.{count}
 use Rattle.base.specs.Digits.{ceil}
 use Rattle.base.proofs.BoolLaws.{order}
 use Rattle.base.proofs.WeaveLaws.{weave-finds}
-use Rattle.base.proofs.DigitLaws.{ceil-low}
+use Rattle.base.proofs.DigitLaws.{ceil-bounded}
 use Rattle.rules.specs.File.{mostNumber}
 use Rattle.rules.specs.Vectors.{codeBit, changes, differs, insertedAfter, between, stepsOf}
 use Rattle.rules.specs.declared.Step.the-variants.{Base, Inserted}
 use Rattle.words.specs.Sets.{netWords, unlike, upTo}
 use Rattle.plan.specs.declared.steps.Plan.{Plan}
 use Rattle.plan.specs.Plans.{basesFor, mostPatterns, insertedBetween, fullAfter, fullStart, roundOf, Small, startOf}
-use Rattle.plan.proofs.StepLaws.{size, size-some, changes-all, changes-low, extra-some, extra-none, start-zero, start-next, start-end, part-length, step-base, step-inserted}
+use Rattle.plan.proofs.StepLaws.{size, size-positive, changes-all, changes-bounded, extra-with-next, extra-none, start-zero, start-next, start-end, part-length, step-base, step-inserted}
 
 -- each vector before part k is one of an earlier part
 pub locate : (p : Plan) (k u : ℕ) → u < startOf p k → (i : ℕ) × (i < k) × (j : ℕ) × (j ≤ insertedAfter (basesFor p) i) × (u ≡ startOf p i + j)
@@ -46,7 +46,7 @@ full-turns p turn i = ap (λ (h : ℕ). ceil h (p .limit) - 1) (changes-turns p 
 
 pub full-is : (p : Plan) (i : ℕ) → i + 1 < size p → fullAfter p i ≡ insertedAfter (basesFor p) i
 unfolding fullAfter
-full-is p i l = extra-some p i (changes (basesFor p) i) l refl
+full-is p i l = extra-with-next p i (changes (basesFor p) i) l refl
 
 -- and each round starts as far behind the one before
 pub full-zero : (p : Plan) → fullStart p 0 ≡ 0
@@ -98,7 +98,7 @@ start-repeats p i l = full-starts p (p .wide + i) l ∙ (rw one-mul at (full-lat
 
 -- after the very last base vector nothing is inserted
 pub total-rounds : (p : Plan) → Small p → length (stepsOf (basesFor p)) + fullAfter p (p .wide - 1) ≡ p .groups * roundOf p
-total-rounds p s = go (size p - 1) (let z = size-some p s in omega arith)
+total-rounds p s = go (size p - 1) (let z = size-positive p s in omega arith)
   where
     go : (i : ℕ) → i + 1 ≡ size p → length (stepsOf (basesFor p)) + fullAfter p (p .wide - 1) ≡ p .groups * roundOf p
     go i q =
@@ -115,30 +115,30 @@ pub round-below : (p : Plan) → Small p → (j : ℕ) → j < p .wide → j < s
 round-below p s j l = let m = mul-le-mul-right (p .wide) (s .turns) in omega (arith, one-mul (p .wide))
 
 -- the bounds of a round
-pub full-low : (p : Plan) → Small p → (i : ℕ) → fullAfter p i ≤ 64 * netWords
+pub full-bounded : (p : Plan) → Small p → (i : ℕ) → fullAfter p i ≤ 64 * netWords
 unfolding fullAfter
-full-low p s i = le-trans (ceil-low (changes (basesFor p) i) (p .limit) (s .limited)) (changes-low p s i)
+full-bounded p s i = le-trans (ceil-bounded (changes (basesFor p) i) (p .limit) (s .limited)) (changes-bounded p s i)
 
-pub full-start-low : (p : Plan) → Small p → (i : ℕ) → fullStart p i ≤ (64 * netWords + 1) * i
+pub full-start-bounded : (p : Plan) → Small p → (i : ℕ) → fullStart p i ≤ (64 * netWords + 1) * i
 unfolding fullStart
-full-start-low p s zero = omega arith
-full-start-low p s (suc i) = let r = full-start-low p s i in omega (arith, full-low p s i)
+full-start-bounded p s zero = omega arith
+full-start-bounded p s (suc i) = let r = full-start-bounded p s i in omega (arith, full-bounded p s i)
 
-pub round-low : (p : Plan) → Small p → roundOf p ≤ (64 * netWords + 1) * mostPatterns
+pub round-bounded : (p : Plan) → Small p → roundOf p ≤ (64 * netWords + 1) * mostPatterns
 unfolding roundOf
-round-low p s = let n = s .narrow in omega (arith, full-start-low p s (p .wide))
+round-bounded p s = let n = s .narrow in omega (arith, full-start-bounded p s (p .wide))
 
-pub rounds-low : (p : Plan) → Small p → p .groups * roundOf p ≤ mostNumber * ((64 * netWords + 1) * mostPatterns)
-rounds-low p s = le-trans (mul-le-mul-right (roundOf p) (s .groups-bounded)) (mul-le-mul-left mostNumber (round-low p s))
+pub rounds-bounded : (p : Plan) → Small p → p .groups * roundOf p ≤ mostNumber * ((64 * netWords + 1) * mostPatterns)
+rounds-bounded p s = le-trans (mul-le-mul-right (roundOf p) (s .groups-bounded)) (mul-le-mul-left mostNumber (round-bounded p s))
 
-full-start-some : (p : Plan) (i : ℕ) → i ≤ fullStart p i
+full-start-at-least : (p : Plan) (i : ℕ) → i ≤ fullStart p i
 unfolding fullStart
-full-start-some p zero = omega arith
-full-start-some p (suc i) = let r = full-start-some p i in omega arith
+full-start-at-least p zero = omega arith
+full-start-at-least p (suc i) = let r = full-start-at-least p i in omega arith
 
-pub round-some : (p : Plan) → Small p → 1 ≤ roundOf p
+pub round-positive : (p : Plan) → Small p → 1 ≤ roundOf p
 unfolding roundOf
-round-some p s = let w = s .coded in omega (arith, full-start-some p (p .wide))
+round-positive p s = let w = s .coded in omega (arith, full-start-at-least p (p .wide))
 
 -- what is inserted between the values of two neighbours
 pub between-is : (p : Plan) → Small p → (i : ℕ) (old new : ℕ → Bool) → old ≡ basesFor p .value i → new ≡ basesFor p .value (i + 1) → insertedBetween old new (p .limit) ≡ fullAfter p i
@@ -156,8 +156,8 @@ round-on p t j left h l e m = ⊎-elim ended (λ (q : j + 1 < p .wide). q) (eq-o
 
 -- vector t of a turn, in part j of its round, and what stands there
 module _ (p : Plan) (s : Small p) (turn t j left : ℕ) (h : turn * roundOf p + t < length (stepsOf (basesFor p))) (l : j < p .wide) (e : fullStart p j + left ≡ t) where
-  pub turn-low : turn * p .wide + j < size p
-  turn-low = ⊎-elim inside past (order turn (p .groups))
+  pub turn-bounded : turn * p .wide + j < size p
+  turn-bounded = ⊎-elim inside past (order turn (p .groups))
     where
       inside : turn < p .groups → turn * p .wide + j < size p
       inside q = let m = mul-le-mul-right (p .wide) q in omega arith
@@ -166,7 +166,7 @@ module _ (p : Plan) (s : Small p) (turn t j left : ℕ) (h : turn * roundOf p + 
       past q = absurd (let m = mul-le-mul-right (roundOf p) q in omega (arith, total-rounds p s))
 
   turn-start : startOf p (turn * p .wide + j) + left ≡ turn * roundOf p + t
-  turn-start = omega (arith, start-turns p turn j turn-low)
+  turn-start = omega (arith, start-turns p turn j turn-bounded)
 
   turn-left : left ≤ fullAfter p j → left ≤ insertedAfter (basesFor p) (turn * p .wide + j)
   turn-left m = ⊎-elim more last (order (turn * p .wide + j + 1) (size p))
@@ -176,11 +176,11 @@ module _ (p : Plan) (s : Small p) (turn t j left : ℕ) (h : turn * roundOf p + 
 
       last : size p ≤ turn * p .wide + j + 1 → left ≤ insertedAfter (basesFor p) (turn * p .wide + j)
       last q =
-          let z : turn * p .wide + j + 1 ≡ size p = omega (arith, turn-low) in
+          let z : turn * p .wide + j + 1 ≡ size p = omega (arith, turn-bounded) in
           omega (arith, turn-start, start-next p (turn * p .wide + j), ap (startOf p) z, start-end p)
 
   pub turn-base : left ≡ 0 → Base (turn * p .wide + j) ≡ getD (stepsOf (basesFor p)) (turn * roundOf p + t) (Base 0)
-  turn-base z = step-base p _ _ left turn-low turn-start z
+  turn-base z = step-base p _ _ left turn-bounded turn-start z
 
   pub turn-inserted : (left ≡ 0 → ⊥) → left ≤ fullAfter p j → Inserted (turn * p .wide + j) left ≡ getD (stepsOf (basesFor p)) (turn * roundOf p + t) (Base 0)
-  turn-inserted z m = step-inserted p _ _ left turn-low turn-start z (turn-left m)
+  turn-inserted z m = step-inserted p _ _ left turn-bounded turn-start z (turn-left m)

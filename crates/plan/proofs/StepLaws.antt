@@ -17,7 +17,7 @@ use Rattle.base.proofs.BoolLaws.{order}
 use Rattle.base.proofs.ListLaws.{length-table, table-at}
 use Rattle.base.proofs.WeaveLaws.{weave-length, weave-at}
 use Rattle.base.proofs.BoundLaws.{count-bound}
-use Rattle.base.proofs.DigitLaws.{ceil-low}
+use Rattle.base.proofs.DigitLaws.{ceil-bounded}
 use Rattle.rules.specs.File.{mostNumber}
 use Rattle.rules.specs.Vectors.{differs, changes, insertedAfter, between, stepsOf}
 use Rattle.rules.specs.declared.Step.the-variants.{Base, Inserted}
@@ -29,36 +29,36 @@ use Rattle.plan.specs.Plans.{basesFor, mostPatterns, Small, startOf}
 abbrev pub size : Plan → ℕ
 size p = p .groups * p .wide
 
-pub size-low : (p : Plan) → Small p → size p ≤ mostNumber * mostPatterns
-size-low p s = le-trans (mul-le-mul-right (p .wide) (s .groups-bounded)) (mul-le-mul-left mostNumber (s .narrow))
+pub size-bounded : (p : Plan) → Small p → size p ≤ mostNumber * mostPatterns
+size-bounded p s = le-trans (mul-le-mul-right (p .wide) (s .groups-bounded)) (mul-le-mul-left mostNumber (s .narrow))
 
-pub size-some : (p : Plan) → Small p → 1 ≤ size p
-size-some p s = le-trans (mul-le-mul-right 1 (s .turns)) (mul-le-mul-left (p .groups) (s .coded))
+pub size-positive : (p : Plan) → Small p → 1 ≤ size p
+size-positive p s = le-trans (mul-le-mul-right 1 (s .turns)) (mul-le-mul-left (p .groups) (s .coded))
 
 -- what differs lies below N, so a count over all members of a set counts it
 pub changes-all : (p : Plan) → Small p → (i : ℕ) → count (64 * netWords) (differs (basesFor p) i) ≡ changes (basesFor p) i
 unfolding changes differs basesFor upTo xor
 changes-all p s i = count-bound _ (s .nets) (λ m h l. rw (le-ltb m (p .nets) h) refl)
 
-pub changes-low : (p : Plan) → Small p → (i : ℕ) → changes (basesFor p) i ≤ 64 * netWords
+pub changes-bounded : (p : Plan) → Small p → (i : ℕ) → changes (basesFor p) i ≤ 64 * netWords
 unfolding changes basesFor
-changes-low p s i = le-trans (count-le (p .nets) (differs (basesFor p) i)) (s .nets)
+changes-bounded p s i = le-trans (count-le (p .nets) (differs (basesFor p) i)) (s .nets)
 
 -- how many are inserted after base vector i, by whether there is a next
-pub extra-some : (p : Plan) (i h : ℕ) → i + 1 < size p → h ≡ changes (basesFor p) i → ceil h (p .limit) - 1 ≡ insertedAfter (basesFor p) i
+pub extra-with-next : (p : Plan) (i h : ℕ) → i + 1 < size p → h ≡ changes (basesFor p) i → ceil h (p .limit) - 1 ≡ insertedAfter (basesFor p) i
 unfolding insertedAfter basesFor
-extra-some p i h l e = rw (e, lt-ltb (i + 1) (size p) l) refl
+extra-with-next p i h l e = rw (e, lt-ltb (i + 1) (size p) l) refl
 
 pub extra-none : (p : Plan) (i : ℕ) → size p ≤ i + 1 → 0 ≡ insertedAfter (basesFor p) i
 unfolding insertedAfter basesFor
 extra-none p i l = rw (le-ltb (i + 1) (size p) l) refl
 
-pub extra-low : (p : Plan) → Small p → (i : ℕ) → insertedAfter (basesFor p) i ≤ 64 * netWords
-extra-low p s i = ⊎-elim some none (order (i + 1) (size p))
+pub extra-bounded : (p : Plan) → Small p → (i : ℕ) → insertedAfter (basesFor p) i ≤ 64 * netWords
+extra-bounded p s i = ⊎-elim has-next none (order (i + 1) (size p))
   where
-    some : i + 1 < size p → insertedAfter (basesFor p) i ≤ 64 * netWords
-    some l =
-        rw (← extra-some p i (changes (basesFor p) i) l refl) (le-trans (ceil-low (changes (basesFor p) i) (p .limit) (s .limited)) (changes-low p s i))
+    has-next : i + 1 < size p → insertedAfter (basesFor p) i ≤ 64 * netWords
+    has-next l =
+        rw (← extra-with-next p i (changes (basesFor p) i) l refl) (le-trans (ceil-bounded (changes (basesFor p) i) (p .limit) (s .limited)) (changes-bounded p s i))
 
     none : size p ≤ i + 1 → insertedAfter (basesFor p) i ≤ 64 * netWords
     none l = rw (← extra-none p i l) (omega arith)

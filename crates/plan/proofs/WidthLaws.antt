@@ -18,7 +18,7 @@ digits-width k nets h = go (leading-top k (nets + 1) (omega arith) h) (width-lea
         (j : ℕ) × (leadingZeros k (nets + 1) + suc j ≡ k) × (2 ^ j ≤ nets + 1) × (nets + 1 < 2 ^ suc j) →
         (nets + 2 ≤ 2 ^ codeWidth nets) × ((q : ℕ) → q < codeWidth nets → 2 ^ q < nets + 2) →
         k - leadingZeros k (nets + 1) ≡ codeWidth nets
-    go (j, e, low, high) (wide, narrow) =
+    go (j, e, at-least, less-than) (wide, narrow) =
         ⊎-elim
         (λ (l : suc j < codeWidth nets). absurd (omega (arith, narrow (suc j) l)))
         (λ (l : codeWidth nets ≤ suc j).
@@ -29,12 +29,12 @@ digits-width k nets h = go (leading-top k (nets + 1) (omega arith) h) (width-lea
         (order (suc j) (codeWidth nets))
 
 -- a width is at least 1, and at most k where 2 ^ k holds every code
-pub width-some : (nets : ℕ) → 1 ≤ codeWidth nets
-width-some nets = ⊎-elim none (λ (q : 0 < codeWidth nets). q) (eq-zero-or-pos (codeWidth nets))
+pub width-positive : (nets : ℕ) → 1 ≤ codeWidth nets
+width-positive nets = ⊎-elim none (λ (q : 0 < codeWidth nets). q) (eq-zero-or-pos (codeWidth nets))
   where
     none : codeWidth nets ≡ 0 → 1 ≤ codeWidth nets
     none e = absurd (let w = width-least nets .0 in let z = ap (λ (k : ℕ). 2 ^ k) e in omega arith)
 
-pub width-low : (k nets : ℕ) → nets + 2 ≤ 2 ^ k → codeWidth nets ≤ k
-width-low k nets h =
+pub width-bounded : (k nets : ℕ) → nets + 2 ≤ 2 ^ k → codeWidth nets ≤ k
+width-bounded k nets h =
     ⊎-elim (λ (l : k < codeWidth nets). absurd (omega (arith, width-least nets .1 k l))) (λ (l : codeWidth nets ≤ k). l) (order k (codeWidth nets))

@@ -31,16 +31,16 @@ pub fn width(nets: usize) -> usize
 }
 
 // 63 digits of one value, and the highest of another.
-fn spread(low: bool, high: bool) -> u64
-    ensures { λ r. ⌜ ((k : ℕ) → k < 64 → bit r k ≡ cond (ltb k 63) low high) ⌝ }
+fn spread(lower: bool, top: bool) -> u64
+    ensures { λ r. ⌜ ((k : ℕ) → k < 64 → bit r k ≡ cond (ltb k 63) lower top) ⌝ }
 {
-    if low {
-        if high {
+    if lower {
+        if top {
             return 0xffffffffffffffff;
         }
         return 0x7fffffffffffffff;
     }
-    if high {
+    if top {
         return 0x8000000000000000;
     }
     0
@@ -55,9 +55,9 @@ fn code_word(wide: usize, j: usize, w: usize) -> u64
     if digit < 6 {
         return LOW[digit];
     }
-    let low = (w >> (digit - 6)) & 1 == 1;
-    let high = ((w + 1) >> (digit - 6)) & 1 == 1;
-    spread(low, high)
+    let lower = (w >> (digit - 6)) & 1 == 1;
+    let top = ((w + 1) >> (digit - 6)) & 1 == 1;
+    spread(lower, top)
 }
 
 // Those of a word's nets, from 64 * w on, that are below `nets`.

@@ -28,14 +28,14 @@ pub starts-end : (p : Plan) (i t : ℕ) → t ≡ startOf p i → i ≡ size p �
 starts-end p i t e h = e ∙ ap (startOf p) h ∙ start-end p
 
 -- the parts up to i are no longer than all
-start-low : (p : Plan) (left i : ℕ) → i + left ≡ size p → startOf p i ≤ length (stepsOf (basesFor p))
-start-low p zero i e = let s : i ≡ size p = omega arith in rw s (omega (arith, start-end p))
-start-low p (suc left) i e = let r = start-low p left (i + 1) (omega arith) in omega (arith, start-next p i)
+start-bounded : (p : Plan) (left i : ℕ) → i + left ≡ size p → startOf p i ≤ length (stepsOf (basesFor p))
+start-bounded p zero i e = let s : i ≡ size p = omega arith in rw s (omega (arith, start-end p))
+start-bounded p (suc left) i e = let r = start-bounded p left (i + 1) (omega arith) in omega (arith, start-next p i)
 
 -- so a vector of part i is one of the plan
 pub part-below : (p : Plan) (i k t : ℕ) → i < size p → t ≡ startOf p i → k ≤ insertedAfter (basesFor p) i → t + k < length (stepsOf (basesFor p))
 part-below p i k t l e h =
-    let r = start-low p (size p - (i + 1)) (i + 1) (omega arith) in
+    let r = start-bounded p (size p - (i + 1)) (i + 1) (omega arith) in
     omega (arith, start-next p i, e)
 
 -- row t of so many lies in the capture, and its place is a small number
@@ -43,7 +43,7 @@ pub row-in : (t vectors bytes long : ℕ) → t < vectors → long ≡ vectors *
 row-in t vectors bytes long l e = row-fits t vectors bytes bytes (t * bytes) long l refl (omega (arith, e)) refl
 
 pub place-in : (t vectors bytes : ℕ) → t < vectors → vectors ≤ mostVectors → bytes ≤ mostBytes → t * bytes ≤ numberValues * mostBytes
-place-in t vectors bytes l few short = omega (arith, place-small t bytes (omega arith) short)
+place-in t vectors bytes l bounded short = omega (arith, place-small t bytes (omega arith) short)
 
 -- the same of the row of vector t
 pub rowed : (p : Plan) (capture : List ℕ) (cells bytes : ℕ) → Captured p capture cells bytes → Rowed p capture bytes
@@ -55,8 +55,8 @@ module _ (p : Plan) (capture : List ℕ) (bytes : ℕ) (k : Rowed p capture byte
   pub row-inside : (t : ℕ) → t < length (stepsOf (basesFor p)) → t * bytes + bytes ≤ length capture
   row-inside t l = row-in t _ bytes _ l (k .rows-are)
 
-  pub place-low : (t : ℕ) → t < length (stepsOf (basesFor p)) → t * bytes ≤ numberValues * mostBytes
-  place-low t l = place-in t _ bytes l (k .vectors) (k .short)
+  pub place-bounded : (t : ℕ) → t < length (stepsOf (basesFor p)) → t * bytes ≤ numberValues * mostBytes
+  place-bounded t l = place-in t _ bytes l (k .vectors) (k .short)
 
 pub row-scanned : (p : Plan) (capture : List ℕ) (cells bytes : ℕ) → Captured p capture cells bytes → (t : ℕ) → t < length (stepsOf (basesFor p)) → Scanned capture (t * bytes) cells
 row-scanned p capture cells bytes k t l =

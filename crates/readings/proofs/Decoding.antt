@@ -42,8 +42,8 @@ code-below p bytes capture (suc j) c =
     let d = digit-bounded (rowBit capture (startOf p j * bytes) c) _ refl in
     omega (arith, two-pow-succ j)
 
-pub code-low : (p : Plan) (bytes : ℕ) (capture : List ℕ) (j c e : ℕ) → j ≤ mostWidth → e ≤ 0 → codeFrom p bytes capture j c e ≤ mostHalf
-code-low p bytes capture j c e l z =
+pub code-bounded : (p : Plan) (bytes : ℕ) (capture : List ℕ) (j c e : ℕ) → j ≤ mostWidth → e ≤ 0 → codeFrom p bytes capture j c e ≤ mostHalf
+code-bounded p bytes capture j c e l z =
     let s : e ≡ 0 = omega arith in
     let m = pow-mono {i = j} {j = mostWidth} l in
     rw s (let r = code-below p bytes capture j c in omega arith)
@@ -103,8 +103,8 @@ module _ (p : Plan) (capture : List ℕ) (cells bytes : ℕ) (k : Captured p cap
           ∙ first-value p j n (k .small) m l
 
 -- no entry is above the number of nets
-pub own-low : (nets code : ℕ) → cond (ltb nets code) 0 code ≤ nets
-own-low nets code =
+pub own-bounded : (nets code : ℕ) → cond (ltb nets code) 0 code ≤ nets
+own-bounded nets code =
     ⊎-elim
     (λ (l : nets < code). rw (lt-ltb nets code l) (omega arith))
     (λ (l : code ≤ nets). rw (le-ltb nets code l) l)

@@ -106,7 +106,7 @@ module _ (first bytes : ℕ) (capture table : List ℕ) where
   left-later u none z m r = left-one (otherLater first bytes capture) u m (left-same (λ c. other-of u c none z) r)
 
 -- where the vectors of a part stand
-module _ (p : Plan) (capture : List ℕ) (bytes : ℕ) (w : Rowed p capture bytes) (i extra t : ℕ) (h : Part p i extra t) (some : 0 < extra) where
+module _ (p : Plan) (capture : List ℕ) (bytes : ℕ) (w : Rowed p capture bytes) (i extra t : ℕ) (h : Part p i extra t) (positive : 0 < extra) where
   last-below : t + extra + 1 < length (stepsOf (basesFor p))
   last-below =
       let n = next-below p i (omega (arith, h .extra-is)) in
@@ -143,8 +143,8 @@ pub period-is : (p : Plan) (i t : ℕ) → t ≡ startOf p i → i ≡ p .wide �
 unfolding period
 period-is p i t e h = e ∙ ap (startOf p) h
 
-pub period-low : (p : Plan) → Small p → period p ≤ length (stepsOf (basesFor p))
+pub period-bounded : (p : Plan) → Small p → period p ≤ length (stepsOf (basesFor p))
 unfolding period
-period-low p s =
+period-bounded p s =
     let m = mul-le-mul-right {m = 1} {n = p .groups} (p .wide) (s .turns) in
     omega (arith, starts-least p (p .wide) (size p) (omega (arith, one-mul (p .wide))), starts-end p (size p) (startOf p (size p)) refl refl)

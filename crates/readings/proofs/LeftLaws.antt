@@ -24,10 +24,10 @@ unfolding stray
 stray-none changing zero e = refl
 stray-none changing (suc n) e = absurd (omega arith)
 
-pub stray-some : (changing : ℕ → Bool) (entry n : ℕ) (h : Bool) → entry ≡ suc n → h ≡ changing n → not h ≡ stray changing entry
+pub stray-named : (changing : ℕ → Bool) (entry n : ℕ) (h : Bool) → entry ≡ suc n → h ≡ changing n → not h ≡ stray changing entry
 unfolding stray
-stray-some changing zero n h e q = absurd (omega arith)
-stray-some changing (suc m) n h e q = let s : m ≡ n = omega arith in rw s (ap not q)
+stray-named changing zero n h e q = absurd (omega arith)
+stray-named changing (suc m) n h e q = let s : m ≡ n = omega arith in rw s (ap not q)
 
 -- where no digit is both left and unlike, all stay
 all-stay :

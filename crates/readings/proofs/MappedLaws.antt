@@ -38,8 +38,8 @@ module _ {f : ℕ → ℕ → ℕ} {before after : List ℕ} {cells n : ℕ} (m 
   entry-old : getD after n 0 ≡ getD before n 0
   entry-old = m .so-far .rest n (omega arith)
 
-  pub entry-low : (most : ℕ) → Entries most cells before → n < cells → getD after n 0 ≤ most
-  entry-low most h l = rw entry-old (h .entries-bounded n l)
+  pub entry-bounded : (most : ℕ) → Entries most cells before → n < cells → getD after n 0 ≤ most
+  entry-bounded most h l = rw entry-old (h .entries-bounded n l)
 
   pub mapping-more : (x : ℕ) → n < cells → x ≡ f n (getD after n 0) → Mapping f before cells (n + 1) (set after n x)
   mapping-more x l h =
@@ -87,13 +87,13 @@ pub mapped-same :
     Mapped g before n after
 mapped-same h m = record { long = m .long; done = λ c l. m .done c l ∙ h c _; rest = m .rest }
 
-pub mapped-low :
+pub mapped-bounded :
     {f : ℕ → ℕ → ℕ} {before after : List ℕ} {n : ℕ} (most less : ℕ) →
     Entries less n before →
     ((c e : ℕ) → e ≤ less → f c e ≤ most) →
     Mapped f before n after →
     Entries most n after
-mapped-low {f} {before} {n = n} most less h k m =
+mapped-bounded {f} {before} {n = n} most less h k m =
     record {
       long = (let a = h .long in omega (arith, m .long));
       entries-bounded = λ c l. rw (m .done c l) (k c (getD before c 0) (h .entries-bounded c l));

@@ -20,7 +20,7 @@ use Rattle.words.specs.Sets.{netWords}
 use Rattle.plan.specs.declared.steps.Plan.{Plan}
 use Rattle.plan.specs.Plans.{basesFor}
 use Rattle.readings.specs.Readings.{readBelow, codeFrom, lost, Mapped, Entries, Captured, Left, Lent, Read}
-use Rattle.readings.proofs.Decoding.{own-low, reads-code}
+use Rattle.readings.proofs.Decoding.{own-bounded, reads-code}
 use Rattle.readings.proofs.Repeating.{left-reads, reads-left}
 
 -- at first all cells are left
@@ -49,14 +49,14 @@ pub own-lent :
 unfolding rowBytes ceil
 own-lent p capture before coded own cells bytes k z m o =
     record {
-      entries = record { long = (let a = z .long in omega (arith, k .bytes-are, m .long, o .long)); entries-bounded = low };
+      entries = record { long = (let a = z .long in omega (arith, k .bytes-are, m .long, o .long)); entries-bounded = entries-within };
       room = (let f = k .cells-bounded in omega (arith, k .bytes-are, length-replicate {A = ℕ} mostBytes 255));
     }
   where
-    low : (c : ℕ) → c < 8 * bytes → getD own c 0 ≤ 64 * netWords
-    low c l =
+    entries-within : (c : ℕ) → c < 8 * bytes → getD own c 0 ≤ 64 * netWords
+    entries-within c l =
         ⊎-elim
-        (λ (q : c < cells). rw (o .done c q) (le-trans (own-low (p .nets) (getD coded c 0)) (k .small .nets)))
+        (λ (q : c < cells). rw (o .done c q) (le-trans (own-bounded (p .nets) (getD coded c 0)) (k .small .nets)))
         (λ (q : cells ≤ c). let a = z .entries-bounded c (omega (arith, k .bytes-are)) in omega (arith, o .rest c q, m .rest c q))
         (order c cells)
 
@@ -101,7 +101,7 @@ pub all-read :
     Read p capture before cells after
 unfolding rowBytes ceil
 all-read p capture before coded own left after cells bytes k z m o f r =
-    record { long = r .long ∙ o .long ∙ m .long; entries-bounded = low; reads = reads; rest = λ c l. r .rest c l ∙ o .rest c l ∙ m .rest c l }
+    record { long = r .long ∙ o .long ∙ m .long; entries-bounded = entries-within; reads = reads; rest = λ c l. r .rest c l ∙ o .rest c l ∙ m .rest c l }
   where
     blank : (c : ℕ) → c < cells → getD before c 0 ≡ 0
     blank c l = let q = z .entries-bounded c (omega arith) in omega arith
@@ -111,17 +111,17 @@ all-read p capture before coded own left after cells bytes k z m o f r =
 
     left-at : (c : ℕ) → c < cells → rowBit left 0 c ≡ not (lost p bytes capture own c)
     left-at c l =
-        let few = k .cells-bounded in
+        let bounded = k .cells-bounded in
         f .done c (omega (arith, k .bytes-are)) ∙ ap (λ (a : Bool). a && not (lost p bytes capture own c)) (all-left mostBytes c (omega arith))
 
     entry : (c : ℕ) → c < cells → getD after c 0 ≡ cond (not (lost p bytes capture own c)) (getD own c 0) 0
     entry c l = r .done c l ∙ ap (λ (a : Bool). cond a (getD own c 0) 0) (left-at c l)
 
-    low : (c : ℕ) → c < cells → getD after c 0 ≤ p .nets
-    low c l = rw (entry c l) (go (not (lost p bytes capture own c)))
+    entries-within : (c : ℕ) → c < cells → getD after c 0 ≤ p .nets
+    entries-within c l = rw (entry c l) (go (not (lost p bytes capture own c)))
       where
         go : (a : Bool) → cond a (getD own c 0) 0 ≤ p .nets
-        go true = rw (o .done c l) (own-low (p .nets) (getD coded c 0))
+        go true = rw (o .done c l) (own-bounded (p .nets) (getD coded c 0))
         go false = omega arith
 
     reads : (c n : ℕ) → c < cells → n < p .nets → eqb (getD after c 0) (suc n) ≡ readBelow p (ceil cells 8) capture (length (stepsOf (basesFor p))) n c

@@ -34,15 +34,15 @@ use Rattle.readings.proofs.Decoding.{first-value}
 grows : (p : Plan) (i : ℕ) → startOf p (suc i) ≡ startOf p i + suc (insertedAfter (basesFor p) i)
 grows p i = rw (← add-one i) (omega (arith, starts-next p i (startOf p i) (insertedAfter (basesFor p) i) refl refl))
 
-starts-low : (p : Plan) (i left : ℕ) → startOf p i ≤ startOf p (i + left)
-starts-low p i zero = rw add-zero (omega arith)
-starts-low p i (suc left) =
-    let r = starts-low p i left in
+starts-rise : (p : Plan) (i left : ℕ) → startOf p i ≤ startOf p (i + left)
+starts-rise p i zero = rw add-zero (omega arith)
+starts-rise p i (suc left) =
+    let r = starts-rise p i left in
     let e : i + suc left ≡ suc (i + left) = omega arith in
     rw e (omega (arith, grows p (i + left)))
 
 pub starts-least : (p : Plan) (i k : ℕ) → i ≤ k → startOf p i ≤ startOf p k
-starts-least p i k l = let e : k ≡ i + (k - i) = omega arith in rw e (starts-low p i (k - i))
+starts-least p i k l = let e : k ≡ i + (k - i) = omega arith in rw e (starts-rise p i (k - i))
 
 -- vectors are inserted only where there is a next base vector
 pub next-below : (p : Plan) (i : ℕ) → 0 < insertedAfter (basesFor p) i → suc i < size p
@@ -257,12 +257,12 @@ module _ (p : Plan) (n : ℕ) (r : ℕ → Bool) (g : Kept p n r) where
   unfolding mix
   part-right i k l h =
       ⊎-elim
-      some
+      inserted
       (λ (z : insertedAfter (basesFor p) i ≤ 0). let e : startOf p i + k ≡ startOf p i = omega arith in rw e (g .first i l))
       (order 0 (insertedAfter (basesFor p) i))
     where
-      some : 0 < insertedAfter (basesFor p) i → r (startOf p i + k) ≡ valueAt p (startOf p i + k) n
-      some z =
+      inserted : 0 < insertedAfter (basesFor p) i → r (startOf p i + k) ≡ valueAt p (startOf p i + k) n
+      inserted z =
           let m = next-below p i z in
           let old : ℕ → Bool = basesFor p .value i in
           let new : ℕ → Bool = basesFor p .value (suc i) in
@@ -281,9 +281,9 @@ module _ (p : Plan) (n : ℕ) (r : ℕ → Bool) (g : Kept p n r) where
           (rw add-zero (g .first i l))
           (rw (← grows p i) (next-right (suc i) l m))
 
-  period-some : 1 ≤ period p
+  period-positive : 1 ≤ period p
   unfolding period
-  period-some = let w = g .small .coded in omega (arith, grows p 0, starts-least p 1 (p .wide) w)
+  period-positive = let w = g .small .coded in omega (arith, grows p 0, starts-least p 1 (p .wide) w)
 
   -- and in every vector, a period at a time
   below-right : (bound t : ℕ) → t < bound → t < length (stepsOf (basesFor p)) → r t ≡ valueAt p t n
@@ -294,7 +294,7 @@ module _ (p : Plan) (n : ℕ) (r : ℕ → Bool) (g : Kept p n r) where
       go : ((u : ℕ) → u < bound → u < length (stepsOf (basesFor p)) → r u ≡ valueAt p u n) → (t < period p) ⊎ (period p ≤ t) → r t ≡ valueAt p t n
       go rest (inl q) = let f = plan.locate p (p .wide) t q in rw (f .4) (part-right (f .0) (f .2) (f .1) (f .3))
       go rest (inr q) =
-          let o = period-some in
+          let o = period-positive in
           let e : t ≡ period p + (t - period p) = omega arith in
           let m : period p + (t - period p) < length (stepsOf (basesFor p)) = omega arith in
           ap r e

@@ -14,21 +14,21 @@ use Rattle.chains.proofs.Walks.{cells-fit}
 use Rattle.plan.specs.declared.steps.Plan.{Plan}
 use Rattle.plan.specs.Plans.{basesFor}
 use Rattle.plan.specs.Planning.{PlanOf}
-use Rattle.plan.proofs.PlanningLaws.{small-plan, groups-low, total-is, whole-file}
+use Rattle.plan.proofs.PlanningLaws.{small-plan, groups-within, total-is, whole-file}
 
-pub cells-few : (file : List ℕ) {cells : ℕ} → judge (boardChecks file) ≡ Accepted → cells ≡ cellsOf file → cells ≤ mostCells
-cells-few file ok e = let f = cells-fit file (whole-file file ok) in omega arith
+pub cells-within : (file : List ℕ) {cells : ℕ} → judge (boardChecks file) ≡ Accepted → cells ≡ cellsOf file → cells ≤ mostCells
+cells-within file ok e = let f = cells-fit file (whole-file file ok) in omega arith
 
-pub total-low : (file : List ℕ) → judge (countChecks file) ≡ Accepted → totalOf (boardOf file) ≤ mostVectors
+pub total-bounded : (file : List ℕ) → judge (countChecks file) ≡ Accepted → totalOf (boardOf file) ≤ mostVectors
 unfolding countChecks
-total-low file ok =
+total-bounded file ok =
     ltb-false mostVectors (totalOf (boardOf file)) (append-pass (boardChecks file) _ (all-pass (countChecks file) ok) .1 .0 0 (omega arith))
 
-pub vectors-low : (file : List ℕ) (p : Plan) (t : ℕ) → judge (countChecks file) ≡ Accepted → PlanOf (boardOf file) p → t ≡ length (stepsOf (basesFor p)) → t ≤ mostNumber
-vectors-low file p t ok h e = let l = total-low file ok in omega (arith, e ∙ total-is (boardOf file) p h)
+pub vectors-bounded : (file : List ℕ) (p : Plan) (t : ℕ) → judge (countChecks file) ≡ Accepted → PlanOf (boardOf file) p → t ≡ length (stepsOf (basesFor p)) → t ≤ mostNumber
+vectors-bounded file p t ok h e = let l = total-bounded file ok in omega (arith, e ∙ total-is (boardOf file) p h)
 
-pub groups-few : (file : List ℕ) (p : Plan) → judge (boardChecks file) ≡ Accepted → PlanOf (boardOf file) p → p .groups ≤ mostNumber
-groups-few file p ok h = let l = groups-low file ok in omega (arith, h .groups-are)
+pub groups-fit : (file : List ℕ) (p : Plan) → judge (boardChecks file) ≡ Accepted → PlanOf (boardOf file) p → p .groups ≤ mostNumber
+groups-fit file p ok h = let l = groups-within file ok in omega (arith, h .groups-are)
 
-pub wide-few : (file : List ℕ) (p : Plan) → judge (boardChecks file) ≡ Accepted → PlanOf (boardOf file) p → p .wide ≤ mostNumber
-wide-few file p ok h = let l = small-plan file ok p h .narrow in omega arith
+pub width-fits : (file : List ℕ) (p : Plan) → judge (boardChecks file) ≡ Accepted → PlanOf (boardOf file) p → p .wide ≤ mostNumber
+width-fits file p ok h = let l = small-plan file ok p h .narrow in omega arith

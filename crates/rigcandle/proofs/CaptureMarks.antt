@@ -24,15 +24,15 @@ use Rattle.rules.proofs.Shape.{laid, shaped}
 use Rattle.plan.specs.declared.steps.Plan.{Plan}
 use Rattle.plan.specs.Plans.{basesFor}
 use Rattle.plan.specs.Planning.{PlanOf}
-use Rattle.plan.proofs.WidthLaws.{width-low}
+use Rattle.plan.proofs.WidthLaws.{width-bounded}
 use Rattle.plan.proofs.PlanningLaws.{bases-are, small-plan, total-is, board-accepted, whole-file}
 use Rattle.readings.specs.Readings.{valueAt, offAt, readBelow, Entries, Captured, Read}
 use Rattle.marks.specs.declared.Counts.{Counts}
 use Rattle.marks.specs.Judging.{markBy, marksBy, Readings, Counted}
-use Rattle.marks.proofs.MarkedLaws.{bytes-few}
+use Rattle.marks.proofs.MarkedLaws.{bytes-that-bounded}
 use Rattle.marks.proofs.MarksByReadings.{marks-by}
 use Rattle.rigcandle.proofs.AnswerLaws.{Gives, marks-accepted}
-use Rattle.rigcandle.proofs.AdmittedLaws.{total-low}
+use Rattle.rigcandle.proofs.AdmittedLaws.{total-bounded}
 
 -- what a cell read, by the plan and by the board
 read-is :
@@ -66,10 +66,10 @@ module _ (file : List ℕ) (p : Plan) (capture : List ℕ) {cells : ℕ} (h : Pl
       let n = f .nets .at-most in
       let q = h .nets-are in
       let w = h .wide-are ∙ ap codeWidth (sym q) in
-      let v = total-low file count in
+      let v = total-bounded file count in
       record {
         small = small-plan file ok p h;
-        narrow = rw w (width-low mostWidth (p .nets) (omega arith));
+        narrow = rw w (width-bounded mostWidth (p .nets) (omega arith));
         coded = rw w (width-least (p .nets) .0);
         cells-bounded = omega arith;
         bytes-are = refl;
@@ -104,14 +104,14 @@ no-entries cells l =
 
 module _ (file : List ℕ) {readings : List ℕ} {counts : Counts} (k : Counted (boardOf file) readings counts) where
   -- no count is above the number of nets
-  pub counts-low : judge (boardChecks file) ≡ Accepted → (counts .pass ≤ mostNumber) × (counts .fail ≤ mostNumber) × (counts .unsure ≤ mostNumber)
+  pub counts-fit : judge (boardChecks file) ≡ Accepted → (counts .pass ≤ mostNumber) × (counts .fail ≤ mostNumber) × (counts .unsure ≤ mostNumber)
   unfolding marksBy boardOf
-  counts-low ok = (rw (k .pass) (low isPass), rw (k .fail) (low isFail), rw (k .unsure) (low isUnsure))
+  counts-fit ok = (rw (k .pass) (each-fits isPass), rw (k .fail) (each-fits isFail), rw (k .unsure) (each-fits isUnsure))
     where
-      low : (test : ℕ → Bool) → bytesThat test (marksBy (boardOf file) readings) ≤ mostNumber
-      low test =
+      each-fits : (test : ℕ → Bool) → bytesThat test (marksBy (boardOf file) readings) ≤ mostNumber
+      each-fits test =
           let f = laid file (shaped file (whole-file file ok)) .nets .at-most in
-          let l = bytes-few test (marksBy (boardOf file) readings) in
+          let l = bytes-that-bounded test (marksBy (boardOf file) readings) in
           omega (arith, length-table (netsOf file) (λ n. byteOf (markBy (boardOf file) readings n)))
 
   -- the answer, by the marks that the readings give

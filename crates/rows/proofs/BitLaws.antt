@@ -31,9 +31,9 @@ module _ (file : List ℕ) (ok : judge (fileChecks file) ≡ Accepted) (c : ℕ)
       let f = laid file (shaped file ok) .nets .at-most in
       omega arith
 
-  pub out-net-low : outNet (boardOf file .cell c) < 64 * netWords
+  pub out-net-bounded : outNet (boardOf file .cell c) < 64 * netWords
   unfolding outNet netOf
-  out-net-low = go (boardOf file .cell c) refl
+  out-net-bounded = go (boardOf file .cell c) refl
     where
       go : (cell : Cell) → boardOf file .cell c ≡ cell → outNet cell < 64 * netWords
       go Internal e = omega arith

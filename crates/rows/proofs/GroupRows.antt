@@ -104,8 +104,8 @@ written-all {b} {before = before} w e = w .so-far ∙ ap (λ (x : ℕ). over (gr
 
 -- a place is a small number
 pub place-small : (g bytes : ℕ) → g ≤ mostNumber → bytes ≤ mostBytes → g * bytes + bytes ≤ numberValues * mostBytes
-place-small g bytes l few = let all = le-trans (mul-le-mul-left g few) (mul-le-mul-right mostBytes l) in omega arith
+place-small g bytes l short = let all = le-trans (mul-le-mul-left g short) (mul-le-mul-right mostBytes l) in omega arith
 
-pub place-low : (g bytes cells at : ℕ) → g ≤ mostNumber → cells ≤ mostCells → bytes ≡ rowBytes cells → at ≡ g * bytes → at + bytes ≤ numberValues * mostBytes
+pub place-bounded : (g bytes cells at : ℕ) → g ≤ mostNumber → cells ≤ mostCells → bytes ≡ rowBytes cells → at ≡ g * bytes → at + bytes ≤ numberValues * mostBytes
 unfolding rowBytes ceil
-place-low g bytes cells at l m e a = omega (arith, a, place-small g bytes l (omega (arith, e)))
+place-bounded g bytes cells at l m e a = omega (arith, a, place-small g bytes l (omega (arith, e)))

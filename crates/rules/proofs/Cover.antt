@@ -111,5 +111,5 @@ module _ (b : Board) (require : Requirement b) (eligible : ℕ → Bool) (on : L
   -- a net that has an eligible control cell is covered
   pub covered-by : 0 < count (b .size) (available b eligible n) → Covered b on n
   covered-by h =
-      let some = count-member (b .size) (available b eligible n) h in
-      covers (suc (count (b .nets) (drives b (some .0)))) (some .0) (omega arith) (some .1) (some .2)
+      let found = count-member (b .size) (available b eligible n) h in
+      covers (suc (count (b .nets) (drives b (found .0)))) (found .0) (omega arith) (found .1) (found .2)

@@ -46,12 +46,12 @@ stages-within : (s : Bases) (i j : ℕ) → count (s .nets) (λ m. xor (stageVal
 unfolding stageValue
 stages-within s i j =
     let d = differs s i in
-    let low = j * s .limit in
-    let high = suc j * s .limit in
+    let changed = j * s .limit in
+    let changed-next = suc j * s .limit in
     let h =
-    count-apart (s .nets) (λ m. xor (stageValue s i j m) (stageValue s i (suc j) m)) (among low d) (among high d)
-    (λ m l. switch (among low d m) (among high d m) _ _ (among-more d (omega (arith, suc-mul j (s .limit))) m)) in
-    omega (arith, count-among (s .nets) low d, count-among (s .nets) high d, suc-mul j (s .limit))
+    count-apart (s .nets) (λ m. xor (stageValue s i j m) (stageValue s i (suc j) m)) (among changed d) (among changed-next d)
+    (λ m l. switch (among changed d m) (among changed-next d m) _ _ (among-more d (omega (arith, suc-mul j (s .limit))) m)) in
+    omega (arith, count-among (s .nets) changed d, count-among (s .nets) changed-next d, suc-mul j (s .limit))
 
 -- each vector from base i up to the next is a stage
 stage-at : (s : Bases) (i : ℕ) (d : Step) (k : ℕ) → k ≤ length (between s i) → vectorOf s (getD (Base i ∷ between s i) k d) .value ≡ stageValue s i k

@@ -133,7 +133,7 @@ module _ (b : Board) (s : Sound b) where
         ⊎-elim
         (λ e. fails-not _ (first-members k e .1))
         (λ o. let same = degrees-equal k n (o .net) (o .cell) l (o .below) a (o .affects) in
-        let low = ltb-true (degree b (o .net)) g (o .is-wanted) in
+        let degree-below = ltb-true (degree b (o .net)) g (o .is-wanted) in
         absurd (omega arith))
         (second-members k h)
 

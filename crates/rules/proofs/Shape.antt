@@ -38,10 +38,10 @@ unfolding wrongLength blocksIn
 whole-blocks file h =
     let n = or-neither (eqb (length file) 0 || not (eqb (length file % blockSize) 0)) h in
     let m = or-neither (eqb (length file) 0) (n .0) in
-    let some = eqb-false (length file) 0 (m .0) in
+    let not-empty = eqb-false (length file) 0 (m .0) in
     let multiple = eqb-true (length file % blockSize) 0 (passes-not _ (m .1)) in
-    let few = ltb-false (blockSize * mostBlocks) (length file) (n .1) in
-    (omega arith, ⊎-elim (λ (l : length file < 1). absurd (some (omega arith))) (λ (l : 1 ≤ length file). omega arith) (order (length file) 1), omega arith)
+    let bounded = ltb-false (blockSize * mostBlocks) (length file) (n .1) in
+    (omega arith, ⊎-elim (λ (l : length file < 1). absurd (not-empty (omega arith))) (λ (l : 1 ≤ length file). omega arith) (order (length file) 1), omega arith)
 
 pub laid : (file : List ℕ) → judge (shapeChecks file) ≡ Accepted → Laid file
 unfolding shapeChecks outside blockWrong

@@ -37,11 +37,11 @@ covers b (x ∷ on) t n h d =
     (λ (e : has t on ≡ true). or-right (drives b x n) (covers b on t n e d))
     (has-cases t x on h)
 
-module _ (b : Board) (few : b .nets ≤ 64 * netWords) (known : (c : ℕ) → c < b .size → controlled b c ≡ true → netOf (b .cell c) < b .nets) where
+module _ (b : Board) (nets-bounded : b .nets ≤ 64 * netWords) (known : (c : ℕ) → c < b .size → controlled b c ≡ true → netOf (b .cell c) < b .nets) where
   -- a control cell's nets are nets of the board
-  net-low : (k n : ℕ) → drives b k n ≡ true → n < b .nets
+  driven-below : (k n : ℕ) → drives b k n ≡ true → n < b .nets
   unfolding driverOf onNet
-  net-low k n d =
+  driven-below k n d =
       let c = drives-driver b k n d in
       let e = eqb-true (netOf (b .cell (c .0))) n (left (onNet b n (c .0)) _ (c .2)) in
       let l = known (c .0) (c .1) (right (onNet b n (c .0)) (c .2)) in
@@ -51,7 +51,7 @@ module _ (b : Board) (few : b .nets ≤ 64 * netWords) (known : (c : ℕ) → c 
   net-marks : (on : List ℕ) (k n : ℕ) → drives b k n ≡ true → coveredBy b on n ≡ true → marked b on k ≡ true
   net-marks on k n d h =
       let t = covered-by b on n h in
-      marks b on (t .0) k (t .1) (inr (meets-at b (t .0) k n (net-low k n d) (t .2) d))
+      marks b on (t .0) k (t .1) (inr (meets-at b (t .0) k n (driven-below k n d) (t .2) d))
 
   -- so a driver on a covered net has a marked control cell
   pub covered-marked : (on : List ℕ) (c : ℕ) → c < b .size → controlled b c ≡ true → coveredBy b on (netOf (b .cell c)) ≡ true → marked b on (controlFor b c) ≡ true
@@ -65,7 +65,7 @@ module _ (b : Board) (few : b .nets ≤ 64 * netWords) (known : (c : ℕ) → c 
 
   reached-at : (on : List ℕ) (k t n : ℕ) → has t on ≡ true → drives b t n ≡ true → drives b k n ≡ true → reached b on k ≡ true
   unfolding reached meetsIn
-  reached-at on k t n h e d = let l = net-low k n d in any-at _ _ (omega arith) (both d (covers b on t n h e))
+  reached-at on k t n h e d = let l = driven-below k n d in any-at _ _ (omega arith) (both d (covers b on t n h e))
 
   -- a control cell with a driver is marked exactly where it is reached
   pub marked-reached : (on : List ℕ) (c : ℕ) → c < b .size → controlled b c ≡ true → marked b on (controlFor b c) ≡ reached b on (controlFor b c)

@@ -60,16 +60,16 @@ ordered-none file t ready =
 
 module _ (file : List ℕ) (c : ℕ) (t : List ℕ) (found : ℕ) (o : Ordered file c t found) where
   -- there are no more than positions
-  pub ordered-few : found ≤ c
-  ordered-few = let e = o .found-are in let l = count-le c (highest (boardOf file)) in omega arith
+  pub found-bounded : found ≤ c
+  found-bounded = let e = o .found-are in let l = count-le c (highest (boardOf file)) in omega arith
 
   -- so each has its place
   pub place : c ≤ cellsOf file → (i : ℕ) → i < found → i < mostCells
-  place l i m = let f = ready-fits file t (o .ready) in let few = ordered-few in omega arith
+  place l i m = let f = ready-fits file t (o .ready) in let bounded = found-bounded in omega arith
 
   -- and there is room for one more
   pub room-more : c < cellsOf file → found < mostCells
-  room-more l = let f = ready-fits file t (o .ready) in let few = ordered-few in omega arith
+  room-more l = let f = ready-fits file t (o .ready) in let bounded = found-bounded in omega arith
 
   -- a position that is no highest driver is left out
   pub ordered-skip : highest (boardOf file) c ≡ false → Ordered file (c + 1) t found

@@ -97,21 +97,21 @@ module _ (file t : List ℕ) (ready : Ready file t) (c : ℕ) (l : c < cellsOf f
   known : (x : ℕ) → x < cellsOf file → controlled (boardOf file) x ≡ true → netOf (boardOf file .cell x) < netsOf file
   known = known-net file (ready .by-control .checked)
 
-  few : netsOf file ≤ 64 * netWords
-  few = let f = laid file (shaped file (ready .by-control .checked)) .nets .at-most in omega arith
+  nets-bounded : netsOf file ≤ 64 * netWords
+  nets-bounded = let f = laid file (shaped file (ready .by-control .checked)) .nets .at-most in omega arith
 
   pub marked-told : (on : List ℕ) (f : ℕ → Bool) (r : Bool) → f ≡ coveredBy (boardOf file) on → r ≡ f (n .0) → r ≡ true → marked (boardOf file) on (k .0) ≡ true
   unfolding boardOf
   marked-told on f r h w is =
       let d = is-driver (boardOf file) c k n e in
-      let m = covered-marked (boardOf file) few known on c l (d .0) (ap (coveredBy (boardOf file) on) (d .2) ∙ ap (λ (s : ℕ → Bool). s (n .0)) (sym h) ∙ sym w ∙ is) in
+      let m = covered-marked (boardOf file) nets-bounded known on c l (d .0) (ap (coveredBy (boardOf file) on) (d .2) ∙ ap (λ (s : ℕ → Bool). s (n .0)) (sym h) ∙ sym w ∙ is) in
       ap (marked (boardOf file) on) (sym (d .1)) ∙ m
 
   pub reached-told : (on : List ℕ) → marked (boardOf file) on (k .0) ≡ reached (boardOf file) on (k .0)
   unfolding boardOf
   reached-told on =
       let d = is-driver (boardOf file) c k n e in
-      rw (d .1) at (marked-reached (boardOf file) few known on c l (d .0))
+      rw (d .1) at (marked-reached (boardOf file) nets-bounded known on c l (d .0))
 
 -- a group at its start, and at its end
 pub holds-none : (b : Board) (state : Turned) → member (state .on .words) ≡ nothing → member (state .covered .words) ≡ nothing → Holds b [] state

@@ -8,7 +8,7 @@ use lib.Dec.{eqb}
 use lib.ListN.{length}
 use Rattle.rules.specs.File.{blockSize, blocksIn, cellsOf, cellBlockRight}
 use Rattle.rules.specs.Refusals.{blocksFor, blockWrong}
-use Rattle.blocks.proofs.Lengths.{cells-low}
+use Rattle.blocks.proofs.Lengths.{cells-bounded}
 use Rattle.blocks.proofs.block_wrong.Statement.{statement}
 use Rattle.blocks.proofs.block_wrong.Tie as tie
 
@@ -31,7 +31,7 @@ later-wrong file (suc i) n e = rw e
 blocks-for-requires : tie.Need-blocks-for-requires
 blocks-for-requires c κs =
     let d = c .before in
-    omega (arith, d .before .pre .told, cells-low (d .before .args .file .now) (λ j. d .shared-slice-known .given j .fits))
+    omega (arith, d .before .pre .told, cells-bounded (d .before .args .file .now) (λ j. d .shared-slice-known .given j .fits))
 
 returns : tie.Need-returns
 returns c = first-wrong _ (c .before .if1 .taken) (c .before .before .before .pre .told) (c .blocks-for .ensures)

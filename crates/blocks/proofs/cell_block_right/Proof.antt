@@ -10,7 +10,7 @@ use Rattle.base.proofs.BoolLaws.{and-next, and-stop}
 use Rattle.rules.specs.File.{blockSize, blockRecords, recordSize, headSize, summed, blockAt, zeros, recordsIn, cellBlockRight}
 use Rattle.blocks.specs.Places.{CellBlock}
 use Rattle.blocks.proofs.Heading.{cell-head}
-use Rattle.blocks.proofs.Lengths.{records-few}
+use Rattle.blocks.proofs.Lengths.{records-bounded}
 use Rattle.blocks.proofs.cell_block_right.Statement.{statement}
 use Rattle.blocks.proofs.cell_block_right.Tie as tie
 
@@ -23,8 +23,8 @@ found-right :
 unfolding cellBlockRight blockAt
 found-right file i cells headed b e = rw (e, b .head, cell-head file i (b .later), b .told)
 
-few : (c : tie.After-records-in) → c .records-in .result ≤ blockRecords
-few c = omega (arith, c .records-in .ensures, records-few (c .before .before .args .cells) (c .before .before .args .i))
+within-block : (c : tie.After-records-in) → c .records-in .result ≤ blockRecords
+within-block c = omega (arith, c .records-in .ensures, records-bounded (c .before .before .args .cells) (c .before .before .args .i))
 
 returns : tie.Need-returns
 returns c =
@@ -43,8 +43,8 @@ cell-block-right-spec =
     (λ c κs. search needs)
     (λ c. search needs)
     (λ c. search needs)
-    (λ c. omega (arith, few c))
-    (λ c. omega (arith, few c))
+    (λ c. omega (arith, within-block c))
+    (λ c. omega (arith, within-block c))
     (λ c. search needs)
     (λ c κs. search needs)
     returns

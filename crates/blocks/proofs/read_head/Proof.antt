@@ -4,12 +4,12 @@ use native.Mathlib.Omega.{arith}
 use borrow.Author.Needs.{needs}
 use Rattle.rules.specs.File.{blockSize, byteAt, blockAt}
 use Rattle.blocks.specs.Reading.{headOf}
-use Rattle.blocks.proofs.Lengths.{number-low}
+use Rattle.blocks.proofs.Lengths.{number-bounded}
 use Rattle.blocks.proofs.read_head.Statement.{statement}
 use Rattle.blocks.proofs.read_head.Tie as tie
 
 cast-t5 : tie.Need-cast-t5
-cast-t5 c = omega (arith, number-low (c .before .before .args .file .now) (blockSize * c .before .before .args .i) (λ j. c .before .shared-slice-known .given j .fits), c .number .ensures)
+cast-t5 c = omega (arith, number-bounded (c .before .before .args .file .now) (blockSize * c .before .before .args .i) (λ j. c .before .shared-slice-known .given j .fits), c .number .ensures)
 
 returns : tie.Need-returns
 unfolding headOf byteAt blockAt

@@ -7,7 +7,7 @@ use Rattle.rules.proofs.CheckLaws.{once-accepted}
 use Rattle.rules.proofs.Verdicts.{stopped, passed}
 use Rattle.blocks.specs.Places.{Headed}
 use Rattle.blocks.proofs.Lengths.{right-length}
-use Rattle.blocks.proofs.Shaping.{row-length, row-sums, row-header, all-held, all-refused, some-head}
+use Rattle.blocks.proofs.Shaping.{row-length, row-sums, row-header, all-held, all-refused, heads-positive}
 use Rattle.blocks.proofs.shape_verdict.Statement.{statement}
 use Rattle.blocks.proofs.shape_verdict.Tie as tie
 
@@ -54,7 +54,7 @@ layout-verdict-requires : tie.Need-layout-verdict-requires
 layout-verdict-requires c κs =
     let h = header-at (c .before) in
     let told = headed (h .before) in
-    record { headed = told; header = some-head _ _ told (sym (h .header-verdict .ensures) ∙ c .before .enum-told4 .given .1); told = c .read-sizes .ensures .cells }
+    record { headed = told; header = heads-positive _ _ told (sym (h .header-verdict .ensures) ∙ c .before .enum-told4 .given .1); told = c .read-sizes .ensures .cells }
 
 returns-4 : tie.Need-returns-4
 returns-4 c =

@@ -28,8 +28,8 @@ one i =
     let l = i .loop-test .taken in
     omega arith
 
-few : (i : tie.In-loop Inv-loop μ-loop) → i .before .loop .p < mostCells
-few i = position-bounded _ _ (start (i .before) .pre .0) (one i)
+below-most : (i : tie.In-loop Inv-loop μ-loop) → i .before .loop .p < mostCells
+below-most i = position-bounded _ _ (start (i .before) .pre .0) (one i)
 
 returns : tie.Need-returns Inv-loop μ-loop
 unfolding brokenAt
@@ -57,8 +57,8 @@ records-verdict-spec =
     tie.close
     (tie.spec Inv-loop μ-loop
     (λ c. search-start _ _)
-    (λ c. let f = few c in omega arith)
+    (λ c. let f = below-most c in omega arith)
     (λ c κs. let p = start (c .before) .pre in (p .0, (p .1, c .loop-test .taken)))
     (λ c. search needs) (λ c. search needs)
-    (λ c κs. let f = few (c .before .before .before) in omega arith)
+    (λ c κs. let f = below-most (c .before .before .before) in omega arith)
     returns (λ c. omega arith) (λ c. omega arith) loop-again returns-2)

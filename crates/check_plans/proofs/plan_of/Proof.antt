@@ -2,7 +2,7 @@
 use native.Mathlib.Omega.{arith}
 use borrow.Author.Needs.{needs}
 use Rattle.rules.specs.Refusals.{mostWidth}
-use Rattle.plan.proofs.WidthLaws.{width-some, width-low}
+use Rattle.plan.proofs.WidthLaws.{width-positive, width-bounded}
 use Rattle.check_plans.proofs.plan_of.Statement.{statement}
 use Rattle.check_plans.proofs.plan_of.Tie as tie
 
@@ -11,10 +11,10 @@ returns c =
     let p = c .before .pre in
     let n = p .0 in
     let nets = c .before .args .nets in
-    let l = width-low mostWidth nets (omega arith) in
+    let l = width-bounded mostWidth nets (omega arith) in
     record {
       nets = p .0;
-      coded = rw (c .width .ensures) (width-some nets);
+      coded = rw (c .width .ensures) (width-positive nets);
       narrow = rw (c .width .ensures) (omega arith);
       turns = p .1;
       groups-bounded = omega (arith, p .2);

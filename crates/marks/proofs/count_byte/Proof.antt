@@ -11,21 +11,21 @@ use Rattle.marks.proofs.count_byte.Tie as tie
 add-pass : tie.Need-add-pass
 add-pass c =
     let s = c .before .before in
-    let few = s .pre .pass in
+    let bounded = s .pre .pass in
     let one = digit-bounded (isPass (s .args .byte)) _ (c .before .digit .ensures) in
     omega arith
 
 add-fail : tie.Need-add-fail
 add-fail c =
     let s = c .before .before .before .before in
-    let few = s .pre .fail in
+    let bounded = s .pre .fail in
     let one = digit-bounded (isFail (s .args .byte)) _ (c .before .digit2 .ensures) in
     omega arith
 
 add-unsure : tie.Need-add-unsure
 add-unsure c =
     let s = c .before .before .before .before .before .before in
-    let few = s .pre .unsure in
+    let bounded = s .pre .unsure in
     let one = digit-bounded (ltb 1 (s .args .byte)) _ (c .before .digit3 .ensures) in
     omega arith
 

@@ -19,7 +19,7 @@ write-marks-requires : tie.Need-write-marks-requires
 write-marks-requires c κs =
     let p = start (c .before) .pre in
     let n = p .1 .0 .nets-are in
-    let few = laid _ (shaped _ (p .0 .checked)) .nets .at-most in
+    let nets-bounded = laid _ (shaped _ (p .0 .checked)) .nets .at-most in
     (p .1 .1, omega arith)
 
 returns : tie.Need-returns

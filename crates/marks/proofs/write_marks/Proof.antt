@@ -5,7 +5,7 @@ use borrow.Author.Needs.{needs}
 use native.Mathlib.Omega.{arith}
 use Rattle.rules.specs.Marks.{byteOf}
 use Rattle.marks.specs.Judging.{Marked}
-use Rattle.marks.proofs.MarkedLaws.{marked-none, marked-more, marked-long, marked-few}
+use Rattle.marks.proofs.MarkedLaws.{marked-none, marked-more, marked-long, marked-bounded}
 use Rattle.marks.proofs.write_marks.Statement.{statement}
 use Rattle.marks.proofs.write_marks.Tie as tie
 
@@ -35,7 +35,7 @@ write-marks-spec =
     (λ c. (omega arith, marked-none _ _))
     (λ c. omega arith) (λ c κs. omega arith) (λ c κs. search needs)
     (λ c. let m = marked-long _ _ (c .before .before .before .loop .inv .1) (omega arith) in omega arith)
-    (λ c κs. marked-few _ _ (c .before .before .before .loop .inv .1) (omega arith))
+    (λ c κs. marked-bounded _ _ (c .before .before .before .loop .inv .1) (omega arith))
     (λ c. omega arith) (λ c. omega arith) loop-again
     (λ c. marked-long _ _ (c .before .loop .inv .1) (omega arith))
     returns)

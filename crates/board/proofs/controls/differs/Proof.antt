@@ -71,13 +71,13 @@ loop-less c =
     walk-falls _ _ _ (start (n .before .before) .pre .0) _ _ _ (here n) (n .before .loop-test .taken) (n .cell-named .ensures) (c .link .ensures)
 
 loop-again : tie.Need-loop-again Inv-loop μ-loop
-loop-again c k few e =
+loop-again c k below e =
     let n = c .before .before .before in
     let l = n .before .before in
     let ch = start l .pre .0 in
     let t = n .before .loop-test .taken in
     let same = n .cell-named .ensures in
-    let w = l .loop .inv k few e in
+    let w = l .loop .inv k below e in
     let key = on-chain _ _ _ ch _ _ (λ d h. left _ _ h) _ _ _ w t same in
     step _ _ _ ch _ _ (λ d h. left _ _ h) _ _ _ _ (omega arith) w t same (agrees _ _ _ _ _ key (c .before .before .drivers-at .ensures) (c .before .if1 .left)) (c .link .ensures)
 
@@ -94,7 +94,7 @@ differs-spec =
     Inv-loop
     μ-loop
     (λ c κs. let p = c .before .pre in cell-fits _ (p .0 .checked) _ (p .1 .1))
-    (λ c k few e. from-head _ _ _ (c .before .before .pre .0) _ _ (λ d h. left _ _ h) few _ e)
+    (λ c k below e. from-head _ _ _ (c .before .before .pre .0) _ _ (λ d h. left _ _ h) below _ e)
     (λ c κs. let u = walk (c .before) .under in let f = cells-fit _ (start (c .before) .pre .0 .checked) in (c .loop-test .taken, omega arith))
     (λ c κs. let l = c .before .before in (start l .pre .1 .0, (here c, keyed-controlled _ _ _ (on c))))
     returns

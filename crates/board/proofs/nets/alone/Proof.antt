@@ -3,7 +3,7 @@ use mathlib.Core.Path.{sym, _∙_}
 use mathlib.Core.Bool.{true≢false}
 use borrow.Author.Tests.{eqb-true, eqb-false}
 use native.Mathlib.Omega.{arith}
-use Rattle.chains.proofs.Walks.{net-fits, cells-fit, cell-fits, head-low}
+use Rattle.chains.proofs.Walks.{net-fits, cells-fit, cell-fits, head-bounded}
 use Rattle.board.proofs.Clashing.{none-alone, one-alone, more-several, head-below}
 use Rattle.board.proofs.nets.alone.Statement.{statement}
 use Rattle.board.proofs.nets.alone.Tie as tie
@@ -21,7 +21,7 @@ cell-named-requires c κs =
     let p = c .before .before .before .pre in
     let f = cells-fit _ (p .0 .checked) in
     let h = c .before .net-head .ensures in
-    let l = head-low _ _ _ (p .0) _ (net-fits _ (p .0 .checked) _ (p .1)) in
+    let l = head-bounded _ _ _ (p .0) _ (net-fits _ (p .0 .checked) _ (p .1)) in
     let z = c .if1 .left in
     (omega arith, omega arith)
 

@@ -109,7 +109,7 @@ loop-again c =
     let n = named (asked d) in
     let l = at-loop d in
     let new = sym (h .has .ensures) ∙ c .before .before .before .before .before .if1 .left in (
-      λ k few e. meeting-next _ _ (start l .pre .0) _ _ _ _ _ _ (l .loop .inv .0 k few e) (n .before .loop-test .taken) (n .cell-named .ensures)
+      λ k below e. meeting-next _ _ (start l .pre .0) _ _ _ _ _ _ (l .loop .inv .0 k below e) (n .before .loop-test .taken) (n .cell-named .ensures)
           _ _ (told d) new (c .before .before .add .ensures) (c .net-link .ensures),
       search needs,
     )
@@ -121,7 +121,7 @@ several-clash-spec =
     Inv-loop
     μ-loop
     (λ c κs. let p = c .before .pre in net-fits _ (p .0 .checked) _ (p .1 .0))
-    (λ c. (λ n few e. meeting-start _ _ (c .before .before .pre .0) _ few _ e _ (λ k. ap (λ (f : ℕ → Bool). f k) (member-zeros cellWords)), refl))
+    (λ c. (λ n below e. meeting-start _ _ (c .before .before .pre .0) _ below _ e _ (λ k. ap (λ (f : ℕ → Bool). f k) (member-zeros cellWords)), refl))
     (λ c κs. let u = meeting-under _ _ _ _ (walk (c .before)) in let f = cells-fit _ (start (c .before) .pre .0 .checked) in (c .loop-test .taken, omega arith))
     (λ c κs. record { checked = start (c .before .before) .pre .0 .checked; below = here c })
     (λ c. search needs)

@@ -1,4 +1,4 @@
--- What the cell is decides what it brings (no-control, low-control, one-control).
+-- What the cell is decides what it brings (no-control, control-not-above, one-control).
 use mathlib.Core.Path.{_≡_, _∙_}
 use native.Mathlib.Omega.{arith}
 use borrow.Author.Needs.{needs}
@@ -6,7 +6,7 @@ use Rattle.rules.specs.File.{boardOf}
 use Rattle.rules.specs.Drivers.{driverAt}
 use Rattle.rules.specs.declared.Driver.the-variants.{Of}
 use Rattle.rules.proofs.DriverLaws.{driver-is}
-use Rattle.chains.proofs.SharingLaws.{no-control, low-control, one-control, control-fits}
+use Rattle.chains.proofs.SharingLaws.{no-control, control-not-above, one-control, control-fits}
 use Rattle.chains.proofs.sharing.add_control.Statement.{statement}
 use Rattle.chains.proofs.sharing.add_control.Tie as tie
 
@@ -24,7 +24,7 @@ returns : tie.Need-returns
 returns c = no-control _ _ _ (driver-is _ _ _ (c .before .before .driver-at .ensures) (c .enum-told .given .1)) _
 
 returns-2 : tie.Need-returns-2
-returns-2 c = low-control _ _ _ _ _ (told (c .before .before .before)) _ (c .if1 .taken)
+returns-2 c = control-not-above _ _ _ _ _ (told (c .before .before .before)) _ (c .if1 .taken)
 
 with-requires : tie.Need-with-requires
 with-requires c κs =

@@ -15,16 +15,16 @@ use Rattle.chains.proofs.Brought.{bringsAbove, brings-net, control-grow
 use Rattle.chains.proofs.sharing.add_controls.Statement.{statement}
 use Rattle.chains.proofs.sharing.add_controls.Tie as tie
 
--- the control cells of n above low, gathered down to `at`
+-- the control cells of n above floor, gathered down to `at`
 abbrev Controls : List ℕ → ℕ → ℕ → (ℕ → Bool) → (ℕ → Bool) → ℕ → Type 0
-Controls file low n first so-far at = Gathered (keyed (boardOf file) NetOf n) (bringsAbove (boardOf file) low n) first so-far (cellsOf file) at
+Controls file floor n first so-far at = Gathered (keyed (boardOf file) NetOf n) (bringsAbove (boardOf file) floor n) first so-far (cellsOf file) at
 
 abbrev Inv-loop : tie.InvT-loop
-Inv-loop file table low more₀ at₀ more at =
-    (n : ℕ) → n < mostNets → at₀ ≡ headIn NetOf table n → Controls file (low .0) n (member (more₀ .words)) (member (more .words)) at
+Inv-loop file table floor more₀ at₀ more at =
+    (n : ℕ) → n < mostNets → at₀ ≡ headIn NetOf table n → Controls file (floor .0) n (member (more₀ .words)) (member (more .words)) at
 
 abbrev μ-loop : tie.MeasureT-loop
-μ-loop file table low more₀ at₀ more at = at
+μ-loop file table floor more₀ at₀ more at = at
 
 abbrev start : tie.At-loop Inv-loop μ-loop → tie.Start Inv-loop μ-loop
 start l = l .before .before .before
@@ -36,7 +36,7 @@ abbrev net : tie.At-loop Inv-loop μ-loop → ℕ
 net l = start l .args .n .0
 
 -- the walk so far
-walk : (l : tie.At-loop Inv-loop μ-loop) → Controls (file l) (start l .args .low .0) (net l) (member (start l .args .met .words)) (member (l .loop .more .words)) (l .loop .at)
+walk : (l : tie.At-loop Inv-loop μ-loop) → Controls (file l) (start l .args .floor .0) (net l) (member (start l .args .met .words)) (member (l .loop .more .words)) (l .loop .at)
 walk l =
     let p = start l .pre in
     l .loop .inv (net l) (net-fits _ (p .0 .checked) _ (p .1)) (l .before .net-head .ensures)
@@ -51,12 +51,12 @@ loop-less c =
     walk-falls _ _ _ (start (n .before .before) .pre .0) _ _ _ (here n) (n .before .loop-test .taken) (n .cell-named .ensures) (c .net-link .ensures)
 
 loop-again : tie.Need-loop-again Inv-loop μ-loop
-loop-again c k few e =
+loop-again c k below e =
     let n = c .before .before in
     let l = n .before .before in
     let ch = start l .pre .0 in
     let t = n .before .loop-test .taken in
-    let inv = l .loop .inv k few e in
+    let inv = l .loop .inv k below e in
     let on = gather-on _ _ _ ch _ _ (brings-net _ _ _) _ _ inv t (n .cell-named .ensures) in
     gather-next _ _ _ ch _ _ (brings-net _ _ _) _ _ _ _ inv t (n .cell-named .ensures)
     (λ j. ap (λ (f : ℕ → Bool). f j) (c .before .add-control .ensures) ∙ control-grown _ _ _ _ _ on j)
@@ -69,7 +69,7 @@ add-controls-spec =
     Inv-loop
     μ-loop
     (λ c κs. let p = c .before .pre in net-fits _ (p .0 .checked) _ (p .1))
-    (λ c n few e. gather-start _ _ _ (c .before .before .pre .0) _ _ (brings-net _ _ _) few _ _ e)
+    (λ c n below e. gather-start _ _ _ (c .before .before .pre .0) _ _ (brings-net _ _ _) below _ _ e)
     (λ c κs. let u = walk (c .before) .under in let f = cells-fit _ (start (c .before) .pre .0 .checked) in (c .loop-test .taken, omega arith))
     (λ c κs. record { checked = start (c .before .before) .pre .0 .checked; below = here c })
     (λ c κs. cell-fits _ (start (c .before .before .before) .pre .0 .checked) _ (here (c .before)))

@@ -53,7 +53,7 @@ on c = gather-on _ _ _ (start (c .before .before) .pre .0) _ _ (brings-control _
 
 loop-holds : tie.Need-loop-holds Inv-loop μ-loop
 loop-holds c =
-    (λ k few e. rw (member-zeros netWords) (gather-start _ _ _ (c .before .before .pre .0) _ _ (brings-control _ _) few nothing _ e), refl)
+    (λ k below e. rw (member-zeros netWords) (gather-start _ _ _ (c .before .before .pre .0) _ _ (brings-control _ _) below nothing _ e), refl)
 
 -- the place where the cell was named, from where its net was read
 abbrev named : tie.After-net-at Inv-loop μ-loop → tie.After-cell-named Inv-loop μ-loop
@@ -85,7 +85,7 @@ loop-again c =
     let ch = start l .pre .0 in
     let t = n .before .loop-test .taken in
     let same = n .cell-named .ensures in (
-      λ k few e. let inv = l .loop .inv .0 k few e in
+      λ k below e. let inv = l .loop .inv .0 k below e in
           gather-next _ _ _ ch _ _ (brings-control _ _) _ _ _ _ inv t same
           (net-brought _ _ _ _ _ _ (net .net-at .ensures) (c .before .before .add .ensures) (gather-on _ _ _ ch _ _ (brings-control _ _) _ _ inv t same))
           (c .link .ensures),

@@ -6,13 +6,13 @@ use borrow.Author.Needs.{needs}
 use lib.Dec.{ltb}
 use Rattle.base.proofs.WordLaws.{read-digit}
 use Rattle.rules.specs.Vectors.{codeBit}
-use Rattle.plan.proofs.Patterns.{low-word, high-word}
+use Rattle.plan.proofs.Patterns.{low-digit-word, high-word}
 use Rattle.plan.proofs.codes.code_word.Statement.{statement}
 use Rattle.plan.proofs.codes.code_word.Tie as tie
 
 returns : tie.Need-returns
 unfolding codeBit
-returns c = record { digits = λ k h. low-word _ _ k (c .if1 .taken) h }
+returns c = record { digits = λ k h. low-digit-word _ _ k (c .if1 .taken) h }
 
 returns-2 : tie.Need-returns-2
 unfolding codeBit

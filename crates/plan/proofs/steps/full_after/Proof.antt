@@ -1,7 +1,7 @@
 -- What is inserted between the values of base vector i and of the next.
 use mathlib.Core.Path.{_∙_}
 use native.Mathlib.Omega.{arith}
-use Rattle.plan.proofs.StepLaws.{size-low}
+use Rattle.plan.proofs.StepLaws.{size-bounded}
 use Rattle.plan.proofs.RoundLaws.{between-is}
 use Rattle.plan.proofs.steps.full_after.Statement.{statement}
 use Rattle.plan.proofs.steps.full_after.Tie as tie
@@ -9,7 +9,7 @@ use Rattle.plan.proofs.steps.full_after.Tie as tie
 add-base-values : tie.Need-add-base-values
 add-base-values c =
     let p = c .before .pre in
-    omega (arith, p .1, size-low _ (p .0))
+    omega (arith, p .1, size-bounded _ (p .0))
 
 inserted-between-requires : tie.Need-inserted-between-requires
 inserted-between-requires c κs = let s = c .before .before .pre .0 in (s .limited, s .limit-bounded)

@@ -5,7 +5,7 @@ use native.Mathlib.Omega.{arith}
 use Rattle.words.specs.Sets.{member}
 use Rattle.plan.specs.declared.steps.Plan.{Plan}
 use Rattle.plan.specs.Plans.{basesFor, fullAfter, fullStart, roundOf, Small}
-use Rattle.plan.proofs.RoundLaws.{between-is, full-zero, full-next, full-low, full-start-low}
+use Rattle.plan.proofs.RoundLaws.{between-is, full-zero, full-next, full-bounded, full-start-bounded}
 use Rattle.plan.proofs.steps.round.Statement.{statement}
 use Rattle.plan.proofs.steps.round.Tie as tie
 
@@ -41,7 +41,7 @@ add-n-2 c =
     let l = at-loop c .loop in
     let n = l .inv .1 in
     let w = small c .narrow in
-    omega (arith, c .before .before .if1 .taken, full-low _ (small c) (l .j), full-start-low _ (small c) (l .j))
+    omega (arith, c .before .before .if1 .taken, full-bounded _ (small c) (l .j), full-start-bounded _ (small c) (l .j))
 
 loop-again : tie.Need-loop-again Inv-loop μ-loop
 loop-again c =
@@ -66,7 +66,7 @@ round-spec =
     add-base-values
     (λ c κs. c .before .before .before .before .pre)
     inserted-between-requires
-    (λ c. let e = told c in omega (arith, full-low _ (small c) (at-loop c .loop .j)))
+    (λ c. let e = told c in omega (arith, full-bounded _ (small c) (at-loop c .loop .j)))
     add-n-2
     (λ c. let n = small c .narrow in omega (arith, c .before .before .if1 .taken))
     (λ c. omega (arith, c .before .before .if1 .taken))

@@ -5,8 +5,8 @@ use native.Mathlib.Omega.{arith}
 use borrow.Author.Needs.{needs}
 use Rattle.rules.specs.File.{mostNumber}
 use Rattle.plan.specs.Plans.{mostPatterns, fullAfter, fullStart}
-use Rattle.plan.proofs.StepLaws.{size-low}
-use Rattle.plan.proofs.RoundLaws.{full-zero, full-next, round-below, round-on, turn-low, turn-base, turn-inserted}
+use Rattle.plan.proofs.StepLaws.{size-bounded}
+use Rattle.plan.proofs.RoundLaws.{full-zero, full-next, round-below, round-on, turn-bounded, turn-base, turn-inserted}
 use Rattle.plan.proofs.steps.step_in.Statement.{statement}
 use Rattle.plan.proofs.steps.step_in.Tie as tie
 
@@ -37,14 +37,14 @@ loop-again c =
     (round-on _ _ _ _ (p .1 .0) (inv .0) (inv .1) (rw (← inv .2) t), omega arith, c .full-after2 .ensures)
 
 -- part j of the turn is one of the plan's
-part-low :
+part-bounded :
     (c : tie.After-struct-known Inv-loop μ-loop) →
     let a = c .before .before .before .before .args in
     a .turn * a .plan .wide + c .before .before .loop .j < mostNumber * mostPatterns
-part-low c =
+part-bounded c =
     let p = c .before .before .before .before .pre in
     let inv = c .before .before .loop .inv in
-    omega (arith, size-low _ (p .0), turn-low _ (p .0) _ _ _ _ (p .1 .1) (inv .0) (inv .1))
+    omega (arith, size-bounded _ (p .0), turn-bounded _ (p .0) _ _ _ _ (p .1 .1) (inv .0) (inv .1))
 
 returns : tie.Need-returns Inv-loop μ-loop
 returns c =
@@ -72,7 +72,7 @@ step-in-spec =
     full-after-requires-2
     (λ c. omega (arith, c .before .loop-test .taken))
     loop-again
-    (λ c. omega (arith, part-low c))
-    (λ c. omega (arith, part-low c))
+    (λ c. omega (arith, part-bounded c))
+    (λ c. omega (arith, part-bounded c))
     returns
     returns-2)

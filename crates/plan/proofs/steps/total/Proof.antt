@@ -1,11 +1,11 @@
 -- Each group has a round, but after the last pattern of the last nothing is inserted (total-rounds).
 use native.Mathlib.Omega.{arith}
-use Rattle.plan.proofs.RoundLaws.{round-below, rounds-low, total-rounds}
+use Rattle.plan.proofs.RoundLaws.{round-below, rounds-bounded, total-rounds}
 use Rattle.plan.proofs.steps.total.Statement.{statement}
 use Rattle.plan.proofs.steps.total.Tie as tie
 
 mul-result : tie.Need-mul-result
-mul-result c = rw (c .before .round .ensures) (omega (arith, rounds-low _ (c .before .before .pre)))
+mul-result c = rw (c .before .round .ensures) (omega (arith, rounds-bounded _ (c .before .before .pre)))
 
 full-after-requires : tie.Need-full-after-requires
 full-after-requires c κs =

@@ -4,7 +4,7 @@ use native.Mathlib.Omega.{arith}
 use borrow.Author.Needs.{needs}
 use Rattle.base.specs.Tests.{digit}
 use Rattle.rules.specs.Rows.{rowBit}
-use Rattle.readings.proofs.MappedLaws.{Mapping, mapping-none, mapping-long, entry-in, entry-low, mapping-more, mapping-all, byte-inside}
+use Rattle.readings.proofs.MappedLaws.{Mapping, mapping-none, mapping-long, entry-in, entry-bounded, mapping-more, mapping-all, byte-inside}
 use Rattle.readings.proofs.codes.add_row.Statement.{statement}
 use Rattle.readings.proofs.codes.add_row.Tie as tie
 
@@ -31,11 +31,11 @@ add-row-spec =
     tie.close
     (tie.spec Inv-loop μ-loop
     (λ c. mapping-none (c .before .before .pre .1 .long))
-    (λ c. let few = entry c .pre .0 .cells-bounded in let t = c .loop-test .taken in omega arith)
+    (λ c. let bounded = entry c .pre .0 .cells-bounded in let t = c .loop-test .taken in omega arith)
     (λ c κs. byte-inside _ _ _ _ (entry c .pre .0) (c .loop-test .taken))
     (λ c. search needs)
     (λ c. let d = begun c in entry-in (d .before .loop .inv) (d .loop-test .taken))
-    (λ c κs. let d = begun c in entry-low (d .before .loop .inv) _ (entry d .pre .1) (d .loop-test .taken))
+    (λ c κs. let d = begun c in entry-bounded (d .before .loop .inv) _ (entry d .pre .1) (d .loop-test .taken))
     (λ c. search needs)
     (λ c. let d = begun (c .before) in entry-in (d .before .loop .inv) (d .loop-test .taken))
     (λ c. omega arith) (λ c. omega arith) loop-again

@@ -7,12 +7,12 @@ use Rattle.rules.specs.Refusals.{mostWidth}
 use Rattle.rules.specs.Vectors.{stepsOf}
 use Rattle.words.specs.Sets.{netWords}
 use Rattle.plan.specs.Plans.{basesFor, startOf}
-use Rattle.plan.proofs.StepLaws.{extra-low}
+use Rattle.plan.proofs.StepLaws.{extra-bounded}
 use Rattle.plan.proofs.RoundLaws.{round-below}
 use Rattle.readings.specs.Readings.{codeFrom, mostHalf, Mapped}
-use Rattle.readings.proofs.MappedLaws.{mapped-id, mapped-low}
-use Rattle.readings.proofs.CapturePlaces.{starts-none, starts-next, rowed, row-scanned, place-low}
-use Rattle.readings.proofs.Decoding.{first-in, code-low, code-more}
+use Rattle.readings.proofs.MappedLaws.{mapped-id, mapped-bounded}
+use Rattle.readings.proofs.CapturePlaces.{starts-none, starts-next, rowed, row-scanned, place-bounded}
+use Rattle.readings.proofs.Decoding.{first-in, code-bounded, code-more}
 use Rattle.readings.proofs.codes.read_codes.Statement.{statement}
 use Rattle.readings.proofs.codes.read_codes.Tie as tie
 
@@ -49,7 +49,7 @@ add-row-requires c κs =
     let l = inv .0 in
     let n = p .0 .narrow in
     let narrow : round d .loop .j ≤ mostWidth = omega arith in
-    (row-scanned _ _ _ _ (p .0) _ (inside d), mapped-low mostHalf 0 (p .1) (λ x e z. code-low _ _ _ _ x e narrow z) (inv .2))
+    (row-scanned _ _ _ _ (p .0) _ (inside d), mapped-bounded mostHalf 0 (p .1) (λ x e z. code-bounded _ _ _ _ x e narrow z) (inv .2))
 
 extra-after-requires : tie.Need-extra-after-requires Inv-loop μ-loop
 extra-after-requires c κs =
@@ -58,11 +58,11 @@ extra-after-requires c κs =
     (s, round-below _ s _ (d .if1 .taken))
 
 -- as many vectors as follow a base vector are few
-few : (d : tie.After-extra-after Inv-loop μ-loop) → d .extra-after .result ≤ 64 * netWords
-few d =
+inserted-bounded : (d : tie.After-extra-after Inv-loop μ-loop) → d .extra-after .result ≤ 64 * netWords
+inserted-bounded d =
     let k = round (begun d) in
     let e = d .extra-after .ensures in
-    omega (arith, extra-low _ (entry k .pre .0 .small) (k .loop .j))
+    omega (arith, extra-bounded _ (entry k .pre .0 .small) (k .loop .j))
 
 loop-again : tie.Need-loop-again Inv-loop μ-loop
 loop-again c =
@@ -84,10 +84,10 @@ pub read-codes-spec : {M : Type 1} → statement M
 read-codes-spec =
     tie.close
     (tie.spec Inv-loop μ-loop loop-holds
-    (λ c. let m = place-low _ _ _ (rowed _ _ _ _ (entry (round c) .pre .0)) _ (inside c) in omega arith)
+    (λ c. let m = place-bounded _ _ _ (rowed _ _ _ _ (entry (round c) .pre .0)) _ (inside c) in omega arith)
     add-row-requires extra-after-requires
-    (λ c. let f = few c in omega arith)
-    (λ c. let f = few c in let t = inside (begun c) in let v = entry (round (begun c)) .pre .0 .vectors in omega arith)
+    (λ c. let f = inserted-bounded c in omega arith)
+    (λ c. let f = inserted-bounded c in let t = inside (begun c) in let v = entry (round (begun c)) .pre .0 .vectors in omega arith)
     (λ c. let t = begun c .if1 .taken in let n = entry (round (begun c)) .pre .0 .narrow in omega arith)
     (λ c. omega (arith, begun c .if1 .taken))
     loop-again

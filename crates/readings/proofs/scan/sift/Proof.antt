@@ -36,7 +36,7 @@ with-digit-requires : tie.Need-with-digit-requires Inv-loop μ-loop
 with-digit-requires c κs =
     let d = begun c in
     let l = d .before in
-    let low = word-lt (l .loop .i) (kept (entry l)) in
+    let word-bounded = word-lt (l .loop .i) (kept (entry l)) in
     (d .loop-test .taken, omega (arith, l .loop .inv .1))
 
 loop-again : tie.Need-loop-again Inv-loop μ-loop

@@ -1,6 +1,6 @@
 -- By the net that the entry names.
 use native.Mathlib.Omega.{arith}
-use Rattle.readings.proofs.LeftLaws.{stray-none, stray-some}
+use Rattle.readings.proofs.LeftLaws.{stray-none, stray-named}
 use Rattle.readings.proofs.scan.stray.Statement.{statement}
 use Rattle.readings.proofs.scan.stray.Tie as tie
 
@@ -11,4 +11,4 @@ stray-spec =
     (λ c. stray-none _ _ (c .if1 .taken))
     (λ c. let z = c .if1 .left in omega arith)
     (λ c κs. let z = c .if1 .left in let p = c .before .pre in omega arith)
-    (λ c. stray-some _ _ _ _ (let z = c .before .if1 .left in omega arith) (c .has .ensures)))
+    (λ c. stray-named _ _ _ _ (let z = c .before .if1 .left in omega arith) (c .has .ensures)))

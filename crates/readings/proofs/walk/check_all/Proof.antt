@@ -4,7 +4,7 @@ use mathlib.Core.Path.{sym, _∙_, ap}
 use native.Mathlib.Omega.{arith}
 use Rattle.readings.specs.Readings.{Later}
 use Rattle.readings.proofs.LeftLaws.{still-lent}
-use Rattle.readings.proofs.Following.{left-lost, period-low}
+use Rattle.readings.proofs.Following.{left-lost, period-bounded}
 use Rattle.readings.proofs.walk.check_all.Statement.{statement}
 use Rattle.readings.proofs.walk.check_all.Tie as tie
 
@@ -25,7 +25,7 @@ later d =
     let p = s .pre .0 in
     let e = counted d .total .ensures in
     let v = p .vectors in
-    let l = period-low _ (p .small) in
+    let l = period-bounded _ (p .small) in
     record {
       short = p .short;
       vectors-bounded = omega arith;

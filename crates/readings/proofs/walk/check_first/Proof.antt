@@ -5,7 +5,7 @@ use native.Mathlib.Omega.{arith}
 use Rattle.base.specs.Tests.{any}
 use Rattle.words.specs.Sets.{netWords}
 use Rattle.plan.specs.Plans.{startOf}
-use Rattle.plan.proofs.StepLaws.{extra-low}
+use Rattle.plan.proofs.StepLaws.{extra-bounded}
 use Rattle.plan.proofs.RoundLaws.{round-below}
 use Rattle.readings.specs.Readings.{strayIn, Left}
 use Rattle.readings.proofs.CapturePlaces.{starts-none, starts-next, part-below}
@@ -29,10 +29,10 @@ abbrev counted : tie.After-slice-known2 Inv-loop μ-loop → tie.After-extra-aft
 counted d = d .before .before .before .before
 
 -- a round's part is one of the plan's, and few vectors are inserted there
-few : (d : tie.After-extra-after Inv-loop μ-loop) → d .extra-after .result ≤ 64 * netWords
-few d =
+inserted-bounded : (d : tie.After-extra-after Inv-loop μ-loop) → d .extra-after .result ≤ 64 * netWords
+inserted-bounded d =
     let r = d .before .before .before in
-    let low = extra-low _ (entry r .pre .0 .small) (r .loop .i) in
+    let bounded = extra-bounded _ (entry r .pre .0 .small) (r .loop .i) in
     omega (arith, d .extra-after .ensures)
 
 check-part-requires : tie.Need-check-part-requires Inv-loop μ-loop
@@ -49,7 +49,7 @@ add-t-2 c =
     let d = counted c in
     let r = d .before .before .before in
     let p = entry r .pre .0 in
-    let low = few d in
+    let bounded = inserted-bounded d in
     let v = p .vectors in
     let q = part-below _ _ 0 _ (round-below _ (p .small) _ (d .before .if1 .taken)) (r .loop .inv .1) (omega arith) in
     omega arith
@@ -85,7 +85,7 @@ check-first-spec =
     (λ c. (omega arith, starts-none _, left-zero _ _ _))
     (λ c κs. let p = entry (c .before .before) .pre .0 in (p .small, round-below _ (p .small) _ (c .if1 .taken)))
     check-part-requires
-    (λ c. let low = few (counted c) in omega arith)
+    (λ c. let bounded = inserted-bounded (counted c) in omega arith)
     add-t-2 add-i
     (λ c. let t = counted c .before .if1 .taken in omega arith)
     loop-again

@@ -8,8 +8,8 @@ use Rattle.base.specs.Tests.{any}
 use Rattle.rules.specs.Refusals.{mostVectors}
 use Rattle.words.specs.Sets.{netWords, member}
 use Rattle.plan.specs.Plans.{basesFor}
-use Rattle.plan.proofs.MixLaws.{changed-low}
-use Rattle.plan.proofs.StepLaws.{size-low, extra-low}
+use Rattle.plan.proofs.MixLaws.{changed-bounded}
+use Rattle.plan.proofs.StepLaws.{size-bounded, extra-bounded}
 use Rattle.readings.specs.Readings.{valueAt, strayAfter, Left}
 use Rattle.readings.proofs.LeftLaws.{left-zero, still-lent}
 use Rattle.readings.proofs.Following.{left-next, left-last, next-row, values-first, values-next, values-last, values-on}
@@ -41,10 +41,10 @@ abbrev ended : tie.After-check-next-arg2 Inv-loop μ-loop → tie.Else1 Inv-loop
 ended d = d .before .before
 
 -- how many vectors are inserted, and where vector k of the part and the next stand
-few : (s : tie.Start Inv-loop μ-loop) → s .args .span .extra ≤ 64 * netWords
-few s =
+inserted-bounded : (s : tie.Start Inv-loop μ-loop) → s .args .span .extra ≤ 64 * netWords
+inserted-bounded s =
     let p = s .pre in
-    let l = extra-low _ (p .0 .small) (s .args .span .i) in
+    let l = extra-bounded _ (p .0 .small) (s .args .span .i) in
     omega (arith, p .1 .0 .extra-is)
 
 row :
@@ -65,8 +65,8 @@ mul-mixed c =
     let d = c .before in
     let r = d .before .before in
     let t = d .if1 .taken in
-    let l = few (entry r) in
-    let m = changed-low _ (r .loop .k + 1) (entry r .pre .0 .small) (omega arith) in
+    let l = inserted-bounded (entry r) in
+    let m = changed-bounded _ (r .loop .k + 1) (entry r .pre .0 .small) (omega arith) in
     omega arith
 
 add-t : tie.Need-add-t Inv-loop μ-loop
@@ -120,12 +120,12 @@ check-inserted-spec =
     tie.close
     (tie.spec Inv-loop μ-loop
     (λ c κs. c .before .before .before .pre .0 .small)
-    (λ c. let p = c .before .before .before .before .before .pre in omega (arith, p .1 .0 .below, size-low _ (p .0 .small)))
+    (λ c. let p = c .before .before .before .before .before .pre in omega (arith, p .1 .0 .below, size-bounded _ (p .0 .small)))
     (λ c κs. c .before .before .before .before .before .pre .0 .small)
     loop-holds
-    (λ c. let t = c .if1 .taken in let l = few (entry (c .before .before)) in omega arith)
+    (λ c. let t = c .if1 .taken in let l = inserted-bounded (entry (c .before .before)) in omega arith)
     mul-mixed (λ c κs. search needs) add-t check-next-requires
-    (λ c. let d = begun (mixed c) in let t = d .if1 .taken in let l = few (entry (d .before .before)) in omega arith)
+    (λ c. let d = begun (mixed c) in let t = d .if1 .taken in let l = inserted-bounded (entry (d .before .before)) in omega arith)
     (λ c. let t = begun (mixed c) .if1 .taken in omega arith)
     loop-again
     (λ c. let s = entry (c .before .before .before) in let r = row s (s .args .span .extra) (omega arith) in omega arith)

@@ -31,7 +31,7 @@ clear-spec =
     tie.close
     (tie.spec Inv-loop μ-loop
     (λ c. mapping-none (c .before .before .pre .1))
-    (λ c. let few = entry c .pre .0 .cells-bounded in let t = c .loop-test .taken in omega arith)
+    (λ c. let bounded = entry c .pre .0 .cells-bounded in let t = c .loop-test .taken in omega arith)
     (λ c κs. byte-inside _ _ _ _ (entry c .pre .0) (c .loop-test .taken))
     (λ c. search needs)
     (λ c. let d = begun c in entry-in (d .before .loop .inv) (d .loop-test .taken))

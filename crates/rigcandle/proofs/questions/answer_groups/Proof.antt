@@ -10,9 +10,9 @@ use Rattle.rules.specs.File.{cellsOf}
 use Rattle.rules.specs.Refusals.{judge, short, groupsChecks, mostCells}
 use Rattle.rules.proofs.Shape.{laid, shaped, one-block}
 use Rattle.rules.proofs.CheckLaws.{once-accepted}
-use Rattle.rows.proofs.GroupRows.{place-low}
+use Rattle.rows.proofs.GroupRows.{place-bounded}
 use Rattle.rigcandle.proofs.AnswerLaws.{groups-refused, groups-accepted, rest-decides, check-by}
-use Rattle.rigcandle.proofs.AdmittedLaws.{cells-few, groups-few}
+use Rattle.rigcandle.proofs.AdmittedLaws.{cells-within, groups-fit}
 use Rattle.rigcandle.proofs.questions.answer_groups.Statement.{statement}
 use Rattle.rigcandle.proofs.questions.answer_groups.Tie as tie
 
@@ -34,7 +34,7 @@ cells-are : (c : tie.After-plan-of) → c .before .before .read-sizes .result .c
 cells-are c = c .before .before .read-sizes .ensures .cells
 
 small : (c : tie.After-plan-of) → c .before .before .read-sizes .result .cells ≤ mostCells
-small c = cells-few _ (start c .pre .ready .accepted) (cells-are c)
+small c = cells-within _ (start c .pre .ready .accepted) (cells-are c)
 
 -- what the room's check is
 judged : (c : tie.After-once) → c .once .result ≡ judge (groupsChecks (file (planned c)) (out (planned c)))
@@ -47,7 +47,7 @@ judged c =
 mul-once : tie.Need-mul-once
 mul-once c =
     let p = c .before .before in
-    let m = place-low _ _ _ _ (groups-few _ _ (start p .pre .ready .accepted) (p .plan-of .ensures)) (small p) (c .before .row-bytes .ensures) refl in
+    let m = place-bounded _ _ _ _ (groups-fit _ _ (start p .pre .ready .accepted) (p .plan-of .ensures)) (small p) (c .before .row-bytes .ensures) refl in
     omega arith
 
 returns : tie.Need-returns
@@ -63,7 +63,7 @@ write-groups-requires c κs =
     record {
       ready = start p .pre .ready;
       cells-are = cells-are p;
-      groups-bounded = groups-few _ _ (start p .pre .ready .accepted) (p .plan-of .ensures);
+      groups-bounded = groups-fit _ _ (start p .pre .ready .accepted) (p .plan-of .ensures);
       long = rw (← o .before .before .row-bytes .ensures) room;
     }
 
@@ -82,7 +82,7 @@ returns-2 c =
 group-bits-requires : tie.Need-group-bits-requires
 group-bits-requires c κs =
     let p = planned (found (c .before .before) .before .before) in
-    groups-few _ _ (start p .pre .ready .accepted) (p .plan-of .ensures)
+    groups-fit _ _ (start p .pre .ready .accepted) (p .plan-of .ensures)
 
 pub answer-groups-spec : {M : Type 1} → statement M
 answer-groups-spec =

@@ -16,10 +16,10 @@ use Rattle.rules.specs.declared.Verdict.the-variants.{Accepted}
 use Rattle.rules.proofs.Shape.{laid, shaped, one-block}
 use Rattle.rules.proofs.CheckLaws.{once-accepted}
 use Rattle.plan.proofs.PlanningLaws.{small-plan, total-is, board-accepted, whole-file}
-use Rattle.rows.proofs.GroupRows.{place-low}
+use Rattle.rows.proofs.GroupRows.{place-bounded}
 use Rattle.rigcandle.proofs.AnswerLaws.{marks-refused, first-decides, second-decides, check-by}
-use Rattle.rigcandle.proofs.AdmittedLaws.{cells-few, vectors-low}
-use Rattle.rigcandle.proofs.CaptureMarks.{marks-are, captured, whole-capture, no-entries, readings-of, counts-low, marked-as}
+use Rattle.rigcandle.proofs.AdmittedLaws.{cells-within, vectors-bounded}
+use Rattle.rigcandle.proofs.CaptureMarks.{marks-are, captured, whole-capture, no-entries, readings-of, counts-fit, marked-as}
 use Rattle.rigcandle.proofs.questions.answer_marks.Statement.{statement}
 use Rattle.rigcandle.proofs.questions.answer_marks.Tie as tie
 
@@ -49,7 +49,7 @@ accepted : (c : tie.After-read-sizes) → judge (boardChecks (file c)) ≡ Accep
 accepted c = board-accepted _ (start c .pre .0)
 
 small : (c : tie.After-read-sizes) → c .read-sizes .result .cells ≤ mostCells
-small c = cells-few _ (accepted c) (c .read-sizes .ensures .cells)
+small c = cells-within _ (accepted c) (c .read-sizes .ensures .cells)
 
 -- what the capture's check is, and the room's
 capture-is :
@@ -75,7 +75,7 @@ mul-once : tie.Need-mul-once
 mul-once c =
     let s = c .before .before in
     let p = start s .pre in
-    let m = place-low _ _ _ _ (vectors-low _ _ _ (p .0) (p .1) (c .before .total .ensures)) (small s) (c .row-bytes .ensures) refl in
+    let m = place-bounded _ _ _ _ (vectors-bounded _ _ _ (p .0) (p .1) (c .before .total .ensures)) (small s) (c .row-bytes .ensures) refl in
     omega arith
 
 returns : tie.Need-returns
@@ -134,7 +134,7 @@ returns-3 c =
 marks-bits-requires : tie.Need-marks-bits-requires
 marks-bits-requires c κs =
     let j = c .before .before in
-    counts-low _ (j .judge-readings .ensures .1) (accepted (sized (judged (whole (roomy (found (read j)))))))
+    counts-fit _ (j .judge-readings .ensures .1) (accepted (sized (judged (whole (roomy (found (read j)))))))
 
 pub answer-marks-spec : {M : Type 1} → statement M
 answer-marks-spec =

@@ -13,9 +13,9 @@ use Rattle.rules.specs.Refusals.{judge, once, short, vectorChecks, mostCells}
 use Rattle.rules.proofs.VectorsDriven.{vector-group}
 use Rattle.rules.proofs.Shape.{laid, shaped, one-block}
 use Rattle.rules.proofs.CheckLaws.{once-accepted}
-use Rattle.plan.proofs.PlanningLaws.{small-plan, total-is, groups-low}
+use Rattle.plan.proofs.PlanningLaws.{small-plan, total-is, groups-within}
 use Rattle.rigcandle.proofs.AnswerLaws.{vector-refused, vector-accepted, first-decides, second-decides, check-by}
-use Rattle.rigcandle.proofs.AdmittedLaws.{cells-few}
+use Rattle.rigcandle.proofs.AdmittedLaws.{cells-within}
 use Rattle.rigcandle.proofs.questions.answer_vector.Statement.{statement}
 use Rattle.rigcandle.proofs.questions.answer_vector.Tie as tie
 
@@ -45,7 +45,7 @@ cells-are : (c : tie.After-plan-of) → c .before .before .read-sizes .result .c
 cells-are c = c .before .before .read-sizes .ensures .cells
 
 small : (c : tie.After-plan-of) → c .before .before .read-sizes .result .cells ≤ mostCells
-small c = cells-few _ (start c .pre .ready .accepted) (cells-are c)
+small c = cells-within _ (start c .pre .ready .accepted) (cells-are c)
 
 -- the total is the board's
 total-of : (c : tie.After-once) → c .before .total .result ≡ totalOf (boardOf (file (planned c)))
@@ -104,7 +104,7 @@ group-bits-requires c κs =
     let k = known (roomy w) in
     let p = planned (judged k) in
     let g = vector-group (boardOf (file p)) (number p) (below k) .1 in
-    let l = groups-low _ (start p .pre .ready .accepted) in
+    let l = groups-within _ (start p .pre .ready .accepted) in
     omega (arith, w .write-vector .ensures .0)
 
 returns-3 : tie.Need-returns-3

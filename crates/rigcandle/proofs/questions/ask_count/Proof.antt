@@ -9,7 +9,7 @@ use Rattle.rules.specs.declared.Verdict.the-variants.{Accepted}
 use Rattle.plan.specs.Planning.{PlanOf}
 use Rattle.plan.proofs.PlanningLaws.{small-plan, total-is, board-accepted}
 use Rattle.rigcandle.proofs.AnswerLaws.{count-accepted, count-refused}
-use Rattle.rigcandle.proofs.AdmittedLaws.{vectors-low, groups-few, wide-few}
+use Rattle.rigcandle.proofs.AdmittedLaws.{vectors-bounded, groups-fit, width-fits}
 use Rattle.rigcandle.proofs.questions.ask_count.Statement.{statement}
 use Rattle.rigcandle.proofs.questions.ask_count.Tie as tie
 
@@ -29,7 +29,7 @@ count-bits-requires : tie.Need-count-bits-requires
 count-bits-requires c κs =
     let m = made (c .before) in
     let ok = board-accepted _ (m .0) in
-    (groups-few _ _ ok (m .1), wide-few _ _ ok (m .1), vectors-low _ _ _ (m .0) (m .1) (c .total .ensures))
+    (groups-fit _ _ ok (m .1), width-fits _ _ ok (m .1), vectors-bounded _ _ _ (m .0) (m .1) (c .total .ensures))
 
 returns-2 : tie.Need-returns-2
 returns-2 c =

@@ -13,7 +13,7 @@ use Rattle.words.specs.Sets.{member}
 use Rattle.chains.proofs.Walks.{cells-fit}
 use Rattle.select.specs.Turns.{listed}
 use Rattle.select.proofs.Passing.{earlier-none, board-size}
-use Rattle.rows.proofs.GroupRows.{Written, written-none, written-all, written-next, on-next, earlier-next, on-own, row-fits, place-low}
+use Rattle.rows.proofs.GroupRows.{Written, written-none, written-all, written-next, on-next, earlier-next, on-own, row-fits, place-bounded}
 use Rattle.rows.proofs.groups.write_rows.Statement.{statement}
 use Rattle.rows.proofs.groups.write_rows.Tie as tie
 
@@ -70,9 +70,9 @@ add-at c =
     let l = chosen c .before .before in
     let inv = l .loop .inv in
     let t = chosen c .before .loop-test .taken in
-    let few = start l .pre .0 .groups-bounded in
+    let bounded = start l .pre .0 .groups-bounded in
     let s = small l in
-    let r = place-low _ _ _ _ (omega arith) (omega arith) (inv .1) (inv .2) in
+    let r = place-bounded _ _ _ _ (omega arith) (omega arith) (inv .1) (inv .2) in
     omega arith
 
 loop-again : tie.Need-loop-again Inv-loop μ-loop
@@ -91,7 +91,7 @@ returns : tie.Need-returns Inv-loop μ-loop
 returns c =
     let l = c .before in
     let inv = l .loop .inv in
-    let low = inv .0 in
+    let upto = inv .0 in
     let e : l .loop .g ≡ start l .args .groups = omega (arith, c .loop-test .left) in
     written-all (inv .4) e
 

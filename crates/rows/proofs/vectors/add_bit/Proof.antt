@@ -10,7 +10,7 @@ use Rattle.words.specs.Sets.{netWords, cellWords}
 use Rattle.words.proofs.SetLaws.{plus-passes, plus-fails}
 use Rattle.chains.proofs.Walks.{cell-fits}
 use Rattle.rows.specs.Bits.{bitOf, bitAt, outNet}
-use Rattle.rows.proofs.BitLaws.{out-net-low}
+use Rattle.rows.proofs.BitLaws.{out-net-bounded}
 use Rattle.rows.proofs.vectors.add_bit.Statement.{statement}
 use Rattle.rows.proofs.vectors.add_bit.Tie as tie
 
@@ -22,14 +22,14 @@ abbrev asked : tie.After-cell-bit → tie.After-cell-at
 asked d = d .before
 
 -- a position is a cell of a set of cells
-cell-low : (s : tie.Start) → s .args .c .0 < 64 * cellWords
-cell-low s = let p = s .pre .0 in cell-fits _ (p .checked) _ (p .below)
+cell-within : (s : tie.Start) → s .args .c .0 < 64 * cellWords
+cell-within s = let p = s .pre .0 in cell-fits _ (p .checked) _ (p .below)
 
 cell-bit-requires : tie.Need-cell-bit-requires
 cell-bit-requires c κs =
     let p = entry c .pre .0 in
-    let n = out-net-low _ (p .checked) _ (p .below) in
-    (cell-low (entry c), subst (λ (x : Cell). outNet x < 64 * netWords) (sym (c .cell-at .ensures)) n)
+    let n = out-net-bounded _ (p .checked) _ (p .below) in
+    (cell-within (entry c), subst (λ (x : Cell). outNet x < 64 * netWords) (sym (c .cell-at .ensures)) n)
 
 -- the bit found is the cell's
 told :
@@ -60,5 +60,5 @@ add-bit-spec =
     (tie.spec
     (λ c κs. c .before .before .pre .0)
     cell-bit-requires (λ c. search needs)
-    (λ c κs. let s = entry (asked (c .before .before .before)) in let l = cell-low s in omega (arith, s .pre .1))
+    (λ c κs. let s = entry (asked (c .before .before .before)) in let l = cell-within s in omega (arith, s .pre .1))
     (λ c. search needs) returns returns-2)

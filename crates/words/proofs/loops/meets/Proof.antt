@@ -28,11 +28,11 @@ module _ (a b : List ℕ) (j : ℕ) where
   none-here e k h = both-at k h ∙ ap (λ (w : ℕ). bit w k) e ∙ bit-zero k
 
   -- and else there is one
-  some-here :
+  both-here :
       j < length a → getD a j 0 < 2 ^ 64 → getD b j 0 < 2 ^ 64 → (bitAnd (getD a j 0) (getD b j 0) ≡ 0 → ⊥) →
       meetsIn (64 * length a) (member a) (member b) ≡ true
   unfolding meetsIn
-  some-here l x y e =
+  both-here l x y e =
       passes-if (any (64 * length a) (λ m. member a m && member b m))
       (λ z. e (none-zero 64 _ (and-lt 64 _ _ x y) (λ k h. sym (both-at k h) ∙ any-none _ _ z (omega arith))))
 
@@ -48,7 +48,7 @@ returns c =
     let l = r .before .before in
     let a = l .before .args in
     let j = l .loop .j in
-    sym (some-here (a .a .now) (a .b .now) j (r .before .loop-test .taken)
+    sym (both-here (a .a .now) (a .b .now) j (r .before .loop-test .taken)
     (r .shared-slice-known .given j .fits) (c .before .shared-slice-known2 .given j .fits) (c .if1 .taken))
 
 loop-again : tie.Need-loop-again Inv-loop μ-loop
