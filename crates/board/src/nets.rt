@@ -67,10 +67,9 @@ fn several_clash(file: &[u8], table: &[u16; TABLE], n: Net) -> bool
         let Driver::Of(k, _) = driver else {
             return true;
         };
-        if loops::has(&met, k.0 as usize) {
+        if loops::add_again(&mut met, k.0 as usize) {
             return true;
         }
-        loops::add(&mut met, k.0 as usize);
         at = net_link(table, c);
     }
     false

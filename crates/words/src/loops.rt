@@ -30,6 +30,19 @@ pub fn add(words: &mut [u64], i: usize)
     words[j] = words[j] | (1 << (i % 64));
 }
 
+// Number i becomes a member. Says whether it was one before.
+pub fn add_again(words: &mut [u64], i: usize) -> bool
+    requires { ⌜ i < 64 * length (now words) ⌝ }
+    ensures { λ r. ⌜ r ≡ member (now (words .entry)) i ⌝ }
+    ensures { λ r. ⌜ member (now (words .exit)) ≡ plus (member (now (words .entry))) i ⌝ }
+{
+    let j = i / 64;
+    let before = words[j];
+    let after = before | (1 << (i % 64));
+    words[j] = after;
+    after == before
+}
+
 // The members of `from` become members of `into`.
 pub(crate) fn join(into: &mut [u64], from: &[u64])
     requires { ⌜ Alike (now into) (now from) ⌝ }

@@ -65,8 +65,9 @@ control-fits d =
     let b = control-below _ ok _ (here (named (asked d))) _ _ (told d) in
     omega arith
 
-abbrev held : tie.After-has Inv-loop μ-loop → tie.After-known-told Inv-loop μ-loop
-held c = c .before .before .before
+-- the place where it was told, from where its control cell was added
+abbrev added : tie.After-met2 Inv-loop μ-loop → tie.After-known-told Inv-loop μ-loop
+added c = c .before .before .before .before
 
 returns : tie.Need-returns Inv-loop μ-loop
 unfolding boardOf
@@ -78,39 +79,36 @@ returns c =
     let on = meeting-on _ _ (p .0) _ _ _ _ (walk l) (n .before .loop-test .taken) (n .cell-named .ensures) in
     always-clashes _ _ _ (p .1 .1) (here n) on (driver-is _ _ _ (a .driver-at .ensures) (c .enum-told .given .1))
 
-has-requires : tie.Need-has-requires Inv-loop μ-loop
-has-requires c κs = let d = c .before .before in let f = control-fits d in omega (arith, at-loop d .loop .inv .1)
+add-again-requires : tie.Need-add-again-requires Inv-loop μ-loop
+add-again-requires c κs = let d = c .before .before in let f = control-fits d in omega (arith, at-loop d .loop .inv .1)
 
 returns-2 : tie.Need-returns-2 Inv-loop μ-loop
 returns-2 c =
-    let d = held (c .before) in
+    let d = added (c .before) in
     let n = named (asked d) in
     let l = at-loop d in
-    meeting-again _ _ (start l .pre .0) _ _ _ _ (walk l) (n .before .loop-test .taken) (n .cell-named .ensures) _ _ (told d) (sym (c .before .has .ensures) ∙ c .if1 .taken)
-
-add-requires : tie.Need-add-requires Inv-loop μ-loop
-add-requires c κs = let d = held (c .before .before .before) in let f = control-fits d in omega (arith, at-loop d .loop .inv .1)
+    meeting-again _ _ (start l .pre .0) _ _ _ _ (walk l) (n .before .loop-test .taken) (n .cell-named .ensures) _ _ (told d) (sym (c .before .before .add-again .ensures .0) ∙ c .if1 .taken)
 
 net-link-requires : tie.Need-net-link-requires Inv-loop μ-loop
 net-link-requires c κs =
-    let d = held (c .before .before .before .before .before) in
+    let d = added (c .before) in
     cell-fits _ (start (at-loop d) .pre .0 .checked) _ (here (named (asked d)))
 
 loop-less : tie.Need-loop-less Inv-loop μ-loop
 loop-less c =
-    let d = held (c .before .before .before .before .before .before) in
+    let d = added (c .before .before) in
     let n = named (asked d) in
     walk-falls _ _ _ (start (at-loop d) .pre .0) _ _ _ (here n) (n .before .loop-test .taken) (n .cell-named .ensures) (c .net-link .ensures)
 
 loop-again : tie.Need-loop-again Inv-loop μ-loop
 loop-again c =
-    let h = c .before .before .before .before .before .before in
-    let d = held h in
+    let a = c .before .before in
+    let d = added a in
     let n = named (asked d) in
     let l = at-loop d in
-    let new = sym (h .has .ensures) ∙ c .before .before .before .before .before .if1 .left in (
+    let new = sym (a .before .add-again .ensures .0) ∙ c .before .if1 .left in (
       λ k below e. meeting-next _ _ (start l .pre .0) _ _ _ _ _ _ (l .loop .inv .0 k below e) (n .before .loop-test .taken) (n .cell-named .ensures)
-          _ _ (told d) new (c .before .before .add .ensures) (c .net-link .ensures),
+          _ _ (told d) new (a .before .add-again .ensures .1) (c .net-link .ensures),
       search needs,
     )
 
@@ -129,11 +127,8 @@ several-clash-spec =
     returns
     (λ c. sym (at-loop (c .before) .loop .inv .1))
     (λ c. search needs)
-    has-requires
+    add-again-requires
     returns-2
-    (λ c. sym (at-loop (held (c .before .before)) .loop .inv .1))
-    (λ c. search needs)
-    add-requires
     net-link-requires
     loop-less
     loop-again
