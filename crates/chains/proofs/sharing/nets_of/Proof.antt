@@ -1,6 +1,6 @@
 -- A walk along k's chain that gathers the nets of its drivers.
 use Prim.Native.Nat.{ℕ, _<_}
-use mathlib.Core.Path.{_≡_, refl, sym}
+use mathlib.Core.Path.{_≡_, refl, sym, subst}
 use mathlib.Core.Bool.{Bool, true}
 use mathlib.Core.List.{List}
 use borrow.Author.Needs.{needs}
@@ -52,8 +52,11 @@ on : (c : tie.After-cell-named Inv-loop μ-loop) → keyed (boardOf (file (c .be
 on c = gather-on _ _ _ (start (c .before .before) .pre .0) _ _ (brings-control _ _) _ _ (walk (c .before .before)) (c .before .loop-test .taken) (c .cell-named .ensures)
 
 loop-holds : tie.Need-loop-holds Inv-loop μ-loop
-loop-holds c =
-    (λ k below e. rw (member-zeros netWords) (gather-start _ _ _ (c .before .before .pre .0) _ _ (brings-control _ _) below nothing _ e), refl)
+loop-holds c = (
+  λ k below e. subst (λ (so-far : ℕ → Bool). Nets (c .before .before .args .file .now) k so-far (c .head .result)) (sym (member-zeros netWords))
+      (gather-start _ _ _ (c .before .before .pre .0) _ _ (brings-control _ _) below nothing _ e),
+  refl,
+)
 
 -- the place where the cell was named, from where its net was read
 abbrev named : tie.After-net-at Inv-loop μ-loop → tie.After-cell-named Inv-loop μ-loop
