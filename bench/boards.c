@@ -1,7 +1,7 @@
 /*
  * boards.c - the reference boards of the benchmark. Each is made in the order of its positions: control cells with their outputs behind
- * them, then the two-state outputs, then the input cells. The same board is then also put in two other orders, since a board's cells may
- * stand in any. Nothing is drawn at random but by a fixed seed, so that a count can be made again.
+ * them and open-drain cells, then the two-state outputs, then the input cells. The same board is then also put in two other orders, since
+ * a board's cells may stand in any. Nothing is drawn at random but by a fixed seed, so that a count can be made again.
  */
 #include "boards.h"
 
@@ -9,7 +9,7 @@
 #include <stdio.h>
 #include <string.h>
 
-enum { INTERNAL, INPUT, CONTROL, THREE_STATE, TWO_STATE };
+enum { INTERNAL, INPUT, CONTROL, THREE_STATE, TWO_STATE, OPEN_DRAIN };
 
 enum { NONE = 65535, BODY = 508, RECORDS_AT = 4, RECORD = 6, PER_BLOCK = 84, SEED = 12 };
 
@@ -35,6 +35,25 @@ static void add_bus(struct board *b, unsigned drivers, unsigned first, unsigned 
 {
     for (unsigned i = 0; i < drivers; i++)
         add_driver(b, i % 2, first, width);
+}
+
+/* Devices with an open-drain cell on each of these nets. */
+static void add_drains(struct board *b, unsigned devices, unsigned first, unsigned width)
+{
+    for (unsigned i = 0; i < devices; i++)
+        for (unsigned net = first; net < first + width; net++)
+            add(b, OPEN_DRAIN, 0, NONE, net);
+}
+
+/* A bus that both kinds of device share, in turn as long as there are any. */
+static void add_mixed_bus(struct board *b, unsigned drivers, unsigned drains, unsigned first, unsigned width)
+{
+    for (unsigned i = 0; i < drivers || i < drains; i++) {
+        if (i < drivers)
+            add_driver(b, i % 2, first, width);
+        if (i < drains)
+            add_drains(b, 1, first, width);
+    }
 }
 
 /* One level of a tree: control cells of this width side by side over the nets from `first` up to `end`. */
@@ -140,6 +159,32 @@ static void make_inputs(struct board *b, unsigned drivers)
     fill_with_inputs(b, 1024);
 }
 
+/* Open-drain lines: some with as many cells as a net may have, some with fewer. No control cell of kind 2. */
+static void make_drain(struct board *b)
+{
+    add_drains(b, 16, 0, 48);
+    add_drains(b, 8, 48, 16);
+    add_drains(b, 4, 64, 8);
+    fill_with_inputs(b, 1024);
+}
+
+/*
+ * Nets with both: three buses of 16 drivers a net, of which 12, 8 and 4 are three-state; one with nested control cells, one of 8 nets and
+ * two of 4, and four open-drain cells a net. Besides, lines of open-drain cells alone.
+ */
+static void make_mixed(struct board *b)
+{
+    add_mixed_bus(b, 12, 4, 0, 16);
+    add_mixed_bus(b, 8, 8, 16, 16);
+    add_mixed_bus(b, 4, 12, 32, 16);
+    add_level(b, 1, 8, 48, 56);
+    add_drains(b, 4, 48, 8);
+    add_level(b, 0, 4, 48, 56);
+    add_drains(b, 3, 56, 16);
+    add_always_on(b, 72, b->nets);
+    fill_with_inputs(b, 1024);
+}
+
 /* Refused: one net with 500 drivers, too many. */
 static void make_crowd(struct board *b)
 {
@@ -242,6 +287,8 @@ unsigned make_boards(struct board *boards)
     make_inputs(begin(next++, "limit", 0, 128, 2), 16);
     make_inputs(begin(next++, "nets256", 0, 256, 2), 7);
     make_inputs(begin(next++, "ssol1", 0, 256, 1), 3);
+    make_drain(begin(next++, "drain", 0, 72, 8));
+    make_mixed(begin(next++, "mixed", 0, 80, 8));
     for (unsigned i = 0; i < sizeof table_6 / sizeof *table_6; i++)
         make_circuit(begin(next++, "table6", i + 1, table_6[i].nets, RIGCANDLE_MOST_CELLS), &table_6[i]);
     for (unsigned units = 1; units <= 8; units *= 2)
@@ -258,7 +305,7 @@ unsigned control_cells(const struct board *b)
 {
     unsigned found = 0;
     for (unsigned q = 0; q < b->size; q++)
-        found += b->cell[q].kind == CONTROL;
+        found += b->cell[q].kind == CONTROL || b->cell[q].kind == OPEN_DRAIN;
     return found;
 }
 

@@ -42,6 +42,7 @@ size_t write_file(const struct board *b, uint8_t *file);
  */
 size_t write_capture(const struct board *b, unsigned groups, unsigned patterns, unsigned further, uint8_t *capture);
 
+/* Those of kind 2 and the open-drain cells, each of which is one of its own. */
 unsigned control_cells(const struct board *b);
 
 /* The nets that have an input cell. */

@@ -1,6 +1,6 @@
 /*
- * plain.c - the four questions of document 01, written from its sentences as one would write them in C: read the file into a struct,
- * check it, work with sets of nets as bits. No tricks and no heap; about 80 KB of stack.
+ * plain.c - the four questions of document 01 with request [3]'s open-drain cells, written from their sentences as one would write them in
+ * C: read the file into a struct, check it, work with sets of nets as bits. No tricks and no heap; about 80 KB of stack.
  */
 #include "plain.h"
 
@@ -25,7 +25,7 @@ enum {
     NONE = 65535
 };
 
-enum { INTERNAL, INPUT, CONTROL, THREE_STATE, TWO_STATE };
+enum { INTERNAL, INPUT, CONTROL, THREE_STATE, TWO_STATE, OPEN_DRAIN };
 
 enum { PASS, FAIL, NOT_SEEN, READ_TWICE };
 
@@ -48,10 +48,12 @@ struct board {
     unsigned nets;  /* N */
     unsigned limit; /* SSOL */
     struct cell cell[MOST_CELLS];
-    unsigned controls;
-    uint16_t control[MOST_CELLS];     /* positions of the control cells, ascending */
+    unsigned switches;                /* kind 2 cells */
+    unsigned drains;                  /* open-drain cells, each a control cell of its own */
+    unsigned controls;                /* both */
+    uint16_t control[MOST_CELLS];     /* their positions: those of the kind 2 cells first, either ascending */
     struct net_set set[MOST_CELLS];   /* a control cell's net set, at its position */
-    uint16_t drivers[MOST_NETS];      /* a net's kind 3 outputs */
+    uint16_t drivers[MOST_NETS];      /* a net's kind 3 and 5 outputs */
     uint16_t always_on[MOST_NETS];    /* a net's kind 4 outputs */
     bool same_control[MOST_NETS];     /* a net has two outputs of one control cell */
 };
@@ -210,13 +212,16 @@ static void read_cells(const uint8_t *file, struct board *b)
     }
 }
 
-static bool record_right(const struct board *b, const struct cell *cell)
+static bool record_right(struct board *b, const struct cell *cell)
 {
     switch (cell->kind) {
     case INTERNAL:
         return cell->on == 0 && cell->control == NONE && cell->net == NONE;
     case INPUT:
     case TWO_STATE:
+        return cell->on == 0 && cell->control == NONE && cell->net < b->nets;
+    case OPEN_DRAIN:
+        b->drains++;
         return cell->on == 0 && cell->control == NONE && cell->net < b->nets;
     case CONTROL:
         return cell->on <= 1 && cell->control == NONE && cell->net == NONE;
@@ -227,9 +232,10 @@ static bool record_right(const struct board *b, const struct cell *cell)
     }
 }
 
-/* 6: a record breaks the table */
-static int records_fault(const struct board *b)
+/* 6: a record breaks the table. Counts the open-drain cells on the way. */
+static int records_fault(struct board *b)
 {
+    b->drains = 0;
     for (unsigned q = 0; q < b->size; q++)
         if (!record_right(b, &b->cell[q]))
             return (int)q;
@@ -237,6 +243,18 @@ static int records_fault(const struct board *b)
 }
 
 /* ---------------------------------------------------------------- nets and control cells */
+
+/* From here on an open-drain cell is a three-state output that is its own control cell; only refusal 10 and the rows tell it apart. */
+static void list_drains(struct board *b)
+{
+    for (unsigned q = 0; q < b->size; q++)
+        if (b->cell[q].kind == OPEN_DRAIN) {
+            b->cell[q].kind = THREE_STATE;
+            b->cell[q].control = (uint16_t)q;
+            b->control[b->controls++] = (uint16_t)q;
+            memset(&b->set[q], 0, sizeof b->set[q]);
+        }
+}
 
 static void list_controls(struct board *b)
 {
@@ -246,6 +264,9 @@ static void list_controls(struct board *b)
             b->control[b->controls++] = (uint16_t)q;
             memset(&b->set[q], 0, sizeof b->set[q]);
         }
+    b->switches = b->controls;
+    if (b->drains > 0)
+        list_drains(b);
 }
 
 static void count_outputs(struct board *b)
@@ -267,7 +288,7 @@ static void count_outputs(struct board *b)
     }
 }
 
-/* 7: a net has no kind 3 or 4 output */
+/* 7: a net has no kind 3, 4 or 5 output */
 static int no_output_fault(const struct board *b)
 {
     for (unsigned net = 0; net < b->nets; net++)
@@ -294,11 +315,11 @@ static int drivers_fault(const struct board *b)
     return NOWHERE;
 }
 
-/* 10: two control cells' net sets meet and neither holds the other */
+/* 10: two control cells' net sets meet and neither holds the other. An open-drain cell's one net is held by every set that meets it. */
 static int crossing_fault(const struct board *b)
 {
-    for (unsigned i = 0; i < b->controls; i++)
-        for (unsigned j = i + 1; j < b->controls; j++) {
+    for (unsigned i = 0; i < b->switches; i++)
+        for (unsigned j = i + 1; j < b->switches; j++) {
             const struct net_set *s = &b->set[b->control[i]], *t = &b->set[b->control[j]];
             if (meet(s, t) && !holds(s, t) && !holds(t, s))
                 return b->control[i];
@@ -414,9 +435,14 @@ static struct net_set values_of(const struct plan *plan, unsigned base, unsigned
 
 /* ---------------------------------------------------------------- groups */
 
+static void set_bit(uint8_t *row, unsigned q)
+{
+    row[q / 8] |= (uint8_t)(1u << (q % 8));
+}
+
 static void turn_on(const struct board *b, unsigned c, bool *marked, uint8_t *row)
 {
-    row[c / 8] |= (uint8_t)(1u << (c % 8));
+    set_bit(row, c);
     for (unsigned i = 0; i < b->controls; i++)
         if (meet(&b->set[c], &b->set[b->control[i]]))
             marked[b->control[i]] = true;
@@ -470,12 +496,16 @@ static bool row_bit(const struct cell *cell, bool on, const struct net_set *valu
     }
 }
 
+/* A row; an open-drain cell out of its turn is loaded with 1, whatever the net's value. */
 static void write_row(const struct board *b, const uint8_t *group, const struct net_set *values, uint8_t *out)
 {
     memset(out, 0, row_bytes(b->size));
     for (unsigned q = 0; q < b->size; q++)
         if (row_bit(&b->cell[q], is_on(group, q), values))
-            out[q / 8] |= (uint8_t)(1u << (q % 8));
+            set_bit(out, q);
+    for (unsigned i = b->switches; i < b->controls; i++)
+        if (!is_on(group, b->control[i]))
+            set_bit(out, b->control[i]);
 }
 
 /* Leaves in same[q], for each input cell q, the nets whose value q has read in every vector so far. */

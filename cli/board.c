@@ -21,7 +21,7 @@ unsigned bit_at(const uint8_t *row, unsigned position)
 
 bool is_output(const struct cell *cell)
 {
-    return cell->kind == THREE_STATE || cell->kind == TWO_STATE;
+    return cell->kind == THREE_STATE || cell->kind == TWO_STATE || cell->kind == OPEN_DRAIN;
 }
 
 bool drives(const struct cell *cell, unsigned net)
@@ -32,6 +32,14 @@ bool drives(const struct cell *cell, unsigned net)
 bool senses(const struct cell *cell, unsigned net)
 {
     return cell->kind == INPUT && cell->net == net;
+}
+
+bool is_open_drain_line(const struct board *board, unsigned net)
+{
+    for (unsigned c = 0; c < board->says.cells; c++)
+        if (board->says.cell[c].kind == OPEN_DRAIN && board->says.cell[c].net == net)
+            return true;
+    return false;
 }
 
 /* ---------------------------------------------------------------- the file's layout */

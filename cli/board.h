@@ -20,7 +20,7 @@ enum {
     NONE = 65535             /* no control cell, no net */
 };
 
-enum kind { INTERNAL = 0, INPUT = 1, CONTROL = 2, THREE_STATE = 3, TWO_STATE = 4 };
+enum kind { INTERNAL = 0, INPUT = 1, CONTROL = 2, THREE_STATE = 3, TWO_STATE = 4, OPEN_DRAIN = 5 };
 
 /* A record: its four numbers, whatever they are. */
 struct cell {
@@ -77,6 +77,9 @@ unsigned bit_at(const uint8_t *row, unsigned position);
 bool is_output(const struct cell *cell);
 bool drives(const struct cell *cell, unsigned net);
 bool senses(const struct cell *cell, unsigned net);
+
+/* Whether a net has an open-drain output, and so a resistor that holds it at 1 while nothing drives it. */
+bool is_open_drain_line(const struct board *board, unsigned net);
 
 /* "net 3", or "net 3 DATA3" where it has a name; likewise for positions. */
 void print_net(FILE *out, const struct board *board, unsigned net);

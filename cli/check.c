@@ -10,12 +10,12 @@ enum { CLOCKS_AROUND = 5 };
 
 #define USUAL_CLOCK "10MHz"
 
-static bool has_input(const struct board *board, unsigned net)
+static bool is_unseen(const struct board *board, unsigned net)
 {
     for (unsigned c = 0; c < board->says.cells; c++)
         if (senses(&board->says.cell[c], net))
-            return true;
-    return false;
+            return false;
+    return true;
 }
 
 static bool switches_nothing(const struct board *board, unsigned position)
@@ -28,40 +28,51 @@ static bool switches_nothing(const struct board *board, unsigned position)
     return true;
 }
 
-/* A line: how many nets no input cell reads, and which. */
-static void print_unseen(const struct board *board)
+/* A net or a cell: whether it is one of those that a line tells of, and how it is called. */
+struct sort {
+    bool (*is_one)(const struct board *board, unsigned number);
+    void (*print)(FILE *out, const struct board *board, unsigned number);
+};
+
+/* A line: how many there are below `end`, and which. Answers how many. */
+static unsigned print_those(const struct board *board, const char *what, unsigned end, struct sort sort)
 {
     unsigned number = 0;
-    for (unsigned net = 0; net < board->says.nets; net++)
-        number += !has_input(board, net);
-    printf("nets without an input cell %u", number);
+    for (unsigned i = 0; i < end; i++)
+        number += sort.is_one(board, i);
+    printf("%s %u", what, number);
     const char *before = ": ";
-    for (unsigned net = 0; net < board->says.nets; net++)
-        if (!has_input(board, net)) {
+    for (unsigned i = 0; i < end; i++)
+        if (sort.is_one(board, i)) {
             fputs(before, stdout);
-            print_net(stdout, board, net);
+            sort.print(stdout, board, i);
             before = ", ";
         }
     putchar('\n');
-    if (number != 0)
+    return number;
+}
+
+static void print_unseen(const struct board *board)
+{
+    if (print_those(board, "nets without an input cell", board->says.nets, (struct sort){is_unseen, print_net}) != 0)
         puts("no capture of this board is a RELEASE: a net that no input cell reads is unsure");
 }
 
-/* A line: how many control cells switch nothing, and which. */
+/* Only where there are any. Their resistors are not in the file, and no pass tells of them. */
+static void print_open_drain(const struct board *board)
+{
+    unsigned net = 0;
+    while (net < board->says.nets && !is_open_drain_line(board, net))
+        net++;
+    if (net == board->says.nets)
+        return;
+    print_those(board, "nets with an open-drain output", board->says.nets, (struct sort){is_open_drain_line, print_net});
+    puts("each of these needs a resistor that holds it at 1; a pass does not show that it is there");
+}
+
 static void print_idle(const struct board *board)
 {
-    unsigned number = 0;
-    for (unsigned c = 0; c < board->says.cells; c++)
-        number += switches_nothing(board, c);
-    printf("control cells that switch nothing %u", number);
-    const char *before = ": ";
-    for (unsigned c = 0; c < board->says.cells; c++)
-        if (switches_nothing(board, c)) {
-            fputs(before, stdout);
-            print_position(stdout, board, c);
-            before = ", ";
-        }
-    putchar('\n');
+    print_those(board, "control cells that switch nothing", board->says.cells, (struct sort){switches_nothing, print_position});
 }
 
 /* One scan for each vector, and one more that brings out the last response. */
@@ -94,6 +105,7 @@ enum status run_check(const struct arguments *arguments)
     printf("accepted\ncells %u\nnets %u\nlimit %u\n", board.says.cells, board.says.nets, board.says.limit);
     printf("groups %u\npatterns %u\nvectors %u\n", rigcandle_count_g(board.counted), rigcandle_count_p(board.counted), board.vectors);
     print_unseen(&board);
+    print_open_drain(&board);
     print_idle(&board);
     print_time(&board, rate);
     return FINE;

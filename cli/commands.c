@@ -14,11 +14,12 @@ static const char check_help[] =
 
 static const char groups_help[] =
     "A line for each group: its number, its row in hex, and the positions of the control cells that are on. A bit is 1 for a\n"
-    "control cell that is on, whatever its on value; what is scanned in are the vectors' rows. Byte 0 comes first in hex.";
+    "control cell that is on, whatever its on value; what is scanned in are the vectors' rows. Byte 0 comes first in hex.\n"
+    "An open-drain output is a control cell of its own, and is on in the groups in which it has the turn.";
 
 static const char vector_help[] =
     "NUMBER counts from 0. Prints the vector's number, its group, its row in hex with byte 0 first, and the positions at\n"
-    "which the row is 1. Position 0 is the cell nearest to TDO.";
+    "which the row is 1. Position 0 is the cell nearest to TDO. An open-drain output without the turn is 1: it lets go.";
 
 static const char marks_help[] =
     "A line for each net that does not pass, then the numbers of pass, fail and unsure, and as the last line RELEASE where\n"
@@ -34,7 +35,8 @@ static const char show_help[] =
 static const char simulate_help[] =
     "CAPTURE gets the rows that a board with the given faults would be read as, none: a healthy board. P is a position, V is\n"
     "0 or 1, A, B and W are nets; faults may be given several times. To qualify a bench before it judges anything. A CAPTURE\n"
-    "that is there already is left alone unless --force is given: it may be a scanned one.";
+    "that is there already is left alone unless --force is given: it may be a scanned one. Where nothing drives a net that has\n"
+    "an open-drain output, its resistor holds it at 1; any other net floats.";
 
 static const char report_help[] =
     "One HTML page that needs nothing beside it: the verdict, the numbers, and each net with its words. Prints RELEASE or HOLD\n"
@@ -114,14 +116,15 @@ const struct command commands[] = {
     {.name = "simulate", .operand = {"BOARD", "CAPTURE"}, .inputs = 1, .fit = simulate_fits,
      .purpose = "the capture of a board with given faults", .more = simulate_help,
      .option = {{"--and", "A,B,..", "these nets are tied, and a 0 wins", true},
-                {"--or", "A,B,..", "these nets are tied, and a 1 wins", true},
+                {"--or", "A,B,..", "these nets are tied, and a 1 wins, but no resistor's", true},
                 {"--wins", "W:A,B,..", "these nets are tied, and net W's drivers win", true},
                 {"--open", "P=V", "the pin at P is open: an input reads V; an output no longer drives, and its net floats to V", true},
-                {"--stuck", "P=V", "the output at P gives V whatever it is loaded with", true},
+                {"--stuck", "P=V", "the output at P gives V whatever it is loaded with: an open-drain one pulls for ever, or never", true},
                 {"--on", "P", "the control cell at P is stuck on: its outputs always drive", true},
                 {"--off", "P", "the control cell at P is stuck off: its outputs never drive", true},
                 {"--fight", "low|high", "where outputs that are on at one net differ, a 0 wins (so unless given) or a 1", true},
-                {"--float", "0|1|keep", "what a net reads that nothing drives; 1 unless given", true},
+                {"--float", "0|1|keep", "what a net reads that nothing drives and no resistor holds; 1 unless given", true},
+                {"--no-resistor", "A", "net A, which has an open-drain output, has no resistor and floats where nothing drives it", true},
                 {"--during", "FIRST-LAST", "the faults are there in these vectors only", true},
                 {"--force", NULL, "write over a CAPTURE that is there already", false},
                 NAMES_OPTION}},

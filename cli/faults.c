@@ -22,17 +22,22 @@ void no_faults(struct faults *faults)
 
 /* ---------------------------------------------------------------- levels */
 
-/* Whether the cell at a position is an output that drives its net. */
-static bool is_driving(const struct board *board, const struct faults *faults, const uint8_t *row, unsigned position)
+/* Whether a control cell has its outputs on. */
+static bool is_on(const struct board *board, const struct faults *faults, const uint8_t *row, unsigned control)
+{
+    if (faults->switched[control] != FAULTLESS)
+        return faults->switched[control] == 1;
+    return bit_at(row, control) == board->says.cell[control].on;
+}
+
+/* What the output at a position gives its net: nothing where it is off, open, or lets go. */
+static uint8_t given_by(const struct board *board, const struct faults *faults, const uint8_t *row, unsigned position)
 {
     const struct cell *cell = &board->says.cell[position];
-    if (!is_output(cell) || faults->open[position] != FAULTLESS)
-        return false;
-    if (cell->kind == TWO_STATE)
-        return true;
-    if (faults->switched[cell->control] != FAULTLESS)
-        return faults->switched[cell->control] == 1;
-    return bit_at(row, cell->control) == board->says.cell[cell->control].on;
+    uint8_t value = faults->stuck[position] != FAULTLESS ? faults->stuck[position] : (uint8_t)bit_at(row, position);
+    bool off = cell->kind == THREE_STATE && !is_on(board, faults, row, cell->control);
+    bool lets_go = cell->kind == OPEN_DRAIN && value == 1;
+    return off || lets_go || faults->open[position] != FAULTLESS ? UNDRIVEN : value;
 }
 
 /* What two drivers give together: `winner` where they differ. */
@@ -48,10 +53,9 @@ static void drive_nets(const struct board *board, const struct faults *faults, c
 {
     memset(own, UNDRIVEN, RIGCANDLE_MOST_NETS);
     for (unsigned c = 0; c < board->says.cells; c++)
-        if (is_driving(board, faults, row, c)) {
+        if (is_output(&board->says.cell[c])) {
             uint8_t *net = &own[board->says.cell[c].net];
-            uint8_t value = faults->stuck[c] != FAULTLESS ? faults->stuck[c] : (uint8_t)bit_at(row, c);
-            *net = together(*net, value, faults->fight);
+            *net = together(*net, given_by(board, faults, row, c), faults->fight);
         }
 }
 
@@ -70,7 +74,23 @@ static void drive_bridges(const struct board *board, const struct faults *faults
     }
 }
 
-/* The level of a net that nothing drives, and that last had this level. */
+/* The nets that a resistor holds at 1 while nothing drives them: their own, or that of a net they are tied to. */
+static void find_held(const struct board *board, const struct faults *faults, bool *held)
+{
+    bool bridge[1 + MOST_BRIDGES] = {false};
+    memset(held, 0, RIGCANDLE_MOST_NETS * sizeof *held);
+    for (unsigned c = 0; c < board->says.cells; c++) {
+        const struct cell *cell = &board->says.cell[c];
+        if (cell->kind == OPEN_DRAIN && !faults->bare[cell->net]) {
+            held[cell->net] = true;
+            bridge[faults->tied[cell->net]] = true;
+        }
+    }
+    for (unsigned net = 0; net < board->says.nets; net++)
+        held[net] = held[net] || (faults->tied[net] != 0 && bridge[faults->tied[net]]);
+}
+
+/* The level of a net that nothing drives or holds, and that last had this level. */
 static uint8_t floating(const struct faults *faults, unsigned net, uint8_t last)
 {
     if (faults->floats[net] != FAULTLESS)
@@ -82,11 +102,16 @@ static uint8_t floating(const struct faults *faults, unsigned net, uint8_t last)
 static void settle_levels(const struct board *board, const struct faults *faults, const uint8_t *row, uint8_t *level)
 {
     uint8_t own[RIGCANDLE_MOST_NETS], bridge[1 + MOST_BRIDGES];
+    bool held[RIGCANDLE_MOST_NETS];
     drive_nets(board, faults, row, own);
     drive_bridges(board, faults, own, bridge);
+    find_held(board, faults, held);
     for (unsigned net = 0; net < board->says.nets; net++) {
         uint8_t driven = faults->tied[net] != 0 ? bridge[faults->tied[net]] : own[net];
-        level[net] = driven != UNDRIVEN ? driven : floating(faults, net, level[net]);
+        if (driven != UNDRIVEN)
+            level[net] = driven;
+        else
+            level[net] = held[net] ? 1 : floating(faults, net, level[net]);
     }
 }
 

@@ -5,13 +5,16 @@
  * The model, vector by vector:
  *
  *   Outputs   A three-state output is on where its control cell's bit in the row is that cell's on value, a two-state output always.
- *             It gives its bit in the row. Stuck, it gives one value instead. Open, it no longer reaches its net. A control cell that
- *             is stuck on or off has all its outputs on, or none.
- *   Nets      A net has the value of its outputs that are on, where these agree; where they fight, a 0 or a 1 wins, as is said for the
- *             whole board. A net that nothing drives floats: to a 0, to a 1 or to the level it last had (1 before the first vector), as
- *             is said for the whole board; but a net with an open output to what is said of that output.
+ *             It gives its bit in the row. An open-drain output gives a 0 where its bit is 0: it pulls; where its bit is 1 it lets go
+ *             and gives nothing. Stuck, an output goes by one value instead of its bit, so that an open-drain output pulls for ever or
+ *             never. Open, it no longer reaches its net. A control cell that is stuck on or off has all its outputs on, or none.
+ *   Nets      A net has the value that its outputs give, where these agree; where they fight, a 0 or a 1 wins, as is said for the
+ *             whole board. A net to which no output gives anything is not driven. One with an open-drain output is then held at 1 by
+ *             its resistor, unless that is missing. Any other floats: to a 0, to a 1 or to the level it last had (1 before the first
+ *             vector), as is said for the whole board; but a net with an open output to what is said of that output.
  *   Bridges   Tied nets have one level: of those that are driven the AND, the OR, or that of the one that wins; where that one is not
- *             driven, the AND of the others. Nets that nothing drives have no say. Where nothing drives any, each floats as it would.
+ *             driven, the AND of the others. Nets that nothing drives have no say, so that a resistor's 1 wins over no output. Where
+ *             nothing drives any, the resistor of one holds them all; where none has one, each floats as it would.
  *   Inputs    An input cell reads its net's level. Open, it reads one value instead. All other bits of the capture are 0.
  *
  * Faults that come and go are there in some vectors, from a first to a last; in the others the board is healthy.
@@ -38,6 +41,7 @@ struct faults {
     uint8_t switched[RIGCANDLE_MOST_CELLS];   /* of a control cell: 1 stuck on, 0 stuck off */
     uint8_t open[RIGCANDLE_MOST_CELLS];       /* of an input: what it reads; of an output: what its net floats to */
     uint8_t floats[RIGCANDLE_MOST_NETS];      /* of a net with an open output: what it floats to */
+    bool bare[RIGCANDLE_MOST_NETS];           /* of a net with an open-drain output: its resistor is missing */
     uint8_t tied[RIGCANDLE_MOST_NETS];        /* a net's bridge, from 1; 0 where it is in none */
     struct bridge bridge[1 + MOST_BRIDGES];
     unsigned bridges;

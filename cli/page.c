@@ -188,9 +188,10 @@ static void put_limits(FILE *out)
     fputs("<section id=\"limits\">\n<h2>What a pass does not cover</h2>\n"
           "<p>A pass says that the net&#39;s input cells read its word in every vector of this one capture, and that no other "
           "net&#39;s input cell did. Some faults leave every mark as it is, always or at times: a control cell that is stuck on, a "
-          "dead driver that it hides, two drivers that fight and agree, a bridge to a net that has no input cell, a fault that comes "
-          "and goes. Nets, pins and parts that the board file leaves out were not tested at all, and nothing here is about voltage, "
-          "timing or what a part does. <cite>docs/OPERATING.md</cite> goes through this fault by fault.</p>\n",
+          "dead driver that it hides, two drivers that fight and agree, a bridge to a net that has no input cell, the missing resistor "
+          "of an open-drain line, a fault that comes and goes. Nets, pins and parts that the board file leaves out were not tested at "
+          "all, and nothing here is about voltage, timing or what a part does. <cite>docs/OPERATING.md</cite> goes through this fault by "
+          "fault.</p>\n",
           out);
     fputs("<p>Each net&#39;s mark and the three numbers are the answers of Rigcandle&#39;s library, which is proved to "
           "keep to its definition of them; RELEASE is said where these count every net as pass. What the tables say of the words that "

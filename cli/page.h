@@ -27,7 +27,7 @@ struct read_word {
 };
 
 struct words {
-    const char *own[RIGCANDLE_MOST_NETS];          /* each net's own word */
+    char *own[RIGCANDLE_MOST_NETS];                /* each net's own word */
     struct read_word read[RIGCANDLE_MOST_CELLS];   /* by position */
 };
 

@@ -151,7 +151,8 @@ static const struct {
 } legend[] = {
     {RIGCANDLE_PASS, "Every input cell of the net read its word, and no other net&#39;s input cell read the same throughout.",
      "Nothing to do, within <a href=\"#limits\">what a pass covers</a>."},
-    {RIGCANDLE_FAIL, "An input cell of the net misread at least once.", "Look for an open, a bridge or a dead driver."},
+    {RIGCANDLE_FAIL, "An input cell of the net misread at least once.",
+     "Look for an open, a bridge, a dead driver or an output that pulls for ever."},
     {RIGCANDLE_READ_TWICE, "The net reads well, but an input cell of another net read its word, too, in every vector.",
      "Look for a bridge to a net that fails."},
     {RIGCANDLE_NOT_SEEN, "The net has no input cell, so that this test says nothing of it.", "Probe it by other means."}};

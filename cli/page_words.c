@@ -12,7 +12,7 @@
 /* ---------------------------------------------------------------- made once */
 
 /* What stands at a position in each row. */
-static const char *column(const struct board *board, const uint8_t *rows, unsigned position)
+static char *column(const struct board *board, const uint8_t *rows, unsigned position)
 {
     char *word = room_for(board->vectors);
     for (unsigned number = 0; number < board->vectors; number++)
@@ -20,15 +20,26 @@ static const char *column(const struct board *board, const uint8_t *rows, unsign
     return word;
 }
 
-/* Each net has an output, or the library would have refused the board; any of them tells its values. */
+/* A net's value is the AND of its outputs' bits: an open-drain output without the turn is loaded with 1, every other output with the
+ * value. Each net has an output, or the library would have refused the board. */
+static void take_output(const struct board *board, const uint8_t *rows, unsigned position, struct words *words)
+{
+    char **own = &words->own[board->says.cell[position].net];
+    if (*own == NULL)
+        *own = column(board, rows, position);
+    for (unsigned number = 0; number < board->vectors; number++)
+        if (bit_at(row_of(board, rows, number), position) == 0)
+            (*own)[number] = '0';
+}
+
 static void take_columns(const struct board *board, const uint8_t *rows, const uint8_t *capture, struct words *words)
 {
     for (unsigned position = 0; position < board->says.cells; position++) {
         const struct cell *cell = &board->says.cell[position];
         if (cell->kind == INPUT)
             words->read[position].word = column(board, capture, position);
-        else if (is_output(cell) && words->own[cell->net] == NULL)
-            words->own[cell->net] = column(board, rows, position);
+        else if (is_output(cell))
+            take_output(board, rows, position, words);
     }
 }
 

@@ -24,11 +24,11 @@ static const struct {
      "Blocks are missing, doubled or out of order, or C is not the number of records. Have the file made again."},
     {"a record breaks the table of cell kinds",
      "Compare the cell at this position with the device's description: its kind, on value, control cell and net."},
-    {"a net has no kind 3 or 4 output",
+    {"a net has no kind 3, 4 or 5 output",
      "The net's driver was left out of the file, or no boundary-scan cell drives the net. In the second case it cannot be tested\n"
      "here: take the net out of the file and make its cells internal; a cell itself is never left out."},
     {"a net has a kind 4 output and another output, or two outputs of one control cell",
-     "Two outputs would drive against each other. Compare them with the circuit diagram; do not scan the board before."},
+     "Two outputs would drive or pull against each other. Compare them with the circuit diagram; do not scan the board before."},
     {"a net has over 16 controlled drivers",
      "Compare the net's outputs with the circuit diagram; perhaps two nets have been given one number. If the diagram agrees, the\n"
      "board is outside what this test can do."},
@@ -37,7 +37,7 @@ static const struct {
      "board is outside what this test can do."},
     {"a control cell's nets differ in number of controlled drivers",
      "For the layout engineer: compare the drivers of these nets with the diagram. If it agrees, the board is outside what this\n"
-     "test can do: all nets of a control cell must have equally many drivers."},
+     "test can do: all nets of a control cell must have equally many drivers, open-drain outputs counted."},
     {"over 4,096 vectors",
      "A larger SSOL means fewer inserted vectors. Whether the board bears it, the layout engineer decides."},
     {"vector number not below the count", "Ask for a vector from 0 to the total less 1; rigcandle check gives the total."},
@@ -126,7 +126,8 @@ static void explain_block(FILE *out, const struct board *board, unsigned number)
 
 /* ---------------------------------------------------------------- refusals 6 to 12: cells and nets */
 
-static const char *const kind_words[] = {"internal", "input", "control", "three-state output", "two-state output"};
+static const char *const kind_words[] = {"internal",           "input",            "control",
+                                         "three-state output", "two-state output", "open-drain output"};
 
 static const char *kind_word(unsigned kind)
 {
@@ -138,12 +139,23 @@ static void print_number(FILE *out, const char *what, unsigned number)
     fprintf(out, number == NONE ? ", %s none" : ", %s %u", what, number);
 }
 
+/* Where a three-state output has a cell of another kind for its control cell: what that one is. */
+static void explain_control(FILE *out, const struct board *board, const struct cell *cell)
+{
+    if (cell->kind != THREE_STATE || cell->control >= board->says.cells || board->says.cell[cell->control].kind == CONTROL)
+        return;
+    unsigned kind = board->says.cell[cell->control].kind;
+    fputs("  ", out);
+    print_position(out, board, cell->control);
+    fprintf(out, ": kind %u (%s)\n", kind, kind_word(kind));
+}
+
 static void explain_record(FILE *out, const struct board *board, unsigned position)
 {
     static const char *const wanted[] = {"on value 0, control none, net none", "on value 0, control none, net below N",
                                          "on value 0 or 1, control none, net none",
                                          "on value 0, the position of a kind 2 cell as control, net below N",
-                                         "on value 0, control none, net below N"};
+                                         "on value 0, control none, net below N", "on value 0, control none, net below N"};
     const struct cell *cell = &board->says.cell[position];
     fputs("  ", out);
     print_position(out, board, position);
@@ -153,7 +165,8 @@ static void explain_record(FILE *out, const struct board *board, unsigned positi
     if (cell->kind < sizeof wanted / sizeof *wanted)
         fprintf(out, "\n  a cell of this kind has %s; N is %u\n", wanted[cell->kind], board->says.nets);
     else
-        fputs("\n  kinds are 0 to 4\n", out);
+        fputs("\n  kinds are 0 to 5\n", out);
+    explain_control(out, board, cell);
 }
 
 /* The outputs and inputs of a net, a line each. */
@@ -186,12 +199,23 @@ static bool switches(const struct board *board, unsigned control, unsigned net)
     return false;
 }
 
-static unsigned drivers_of(const struct board *board, unsigned net)
+/* How many outputs of this kind a net has. */
+static unsigned outputs_of(const struct board *board, unsigned net, unsigned kind)
 {
     unsigned number = 0;
     for (unsigned c = 0; c < board->says.cells; c++)
-        number += board->says.cell[c].kind == THREE_STATE && board->says.cell[c].net == net;
+        number += board->says.cell[c].kind == kind && board->says.cell[c].net == net;
     return number;
+}
+
+/* A net's number of controlled drivers, and how many of them are open-drain outputs, which no other cell switches. */
+static void print_drivers(FILE *out, const struct board *board, unsigned net)
+{
+    unsigned open_drain = outputs_of(board, net, OPEN_DRAIN), drivers = outputs_of(board, net, THREE_STATE) + open_drain;
+    fprintf(out, " (%u controlled driver%s", drivers, drivers != 1 ? "s" : "");
+    if (open_drain != 0)
+        fprintf(out, ", %u of them open-drain", open_drain);
+    fputc(')', out);
 }
 
 /* A control cell's nets in a line, with their numbers of controlled drivers where these are asked for. */
@@ -205,7 +229,7 @@ static void print_set(FILE *out, const struct board *board, unsigned control, bo
             fputs(before, out);
             print_net(out, board, net);
             if (drivers)
-                fprintf(out, " (%u controlled driver%s)", drivers_of(board, net), drivers_of(board, net) != 1 ? "s" : "");
+                print_drivers(out, board, net);
             before = ", ";
         }
     fputc('\n', out);

@@ -60,8 +60,8 @@ static bool take_net(struct reader *reader, const char *word, unsigned *net)
 /* A position whose cell is of one of these kinds, a bit for each; `what` are these in words. */
 static bool take_position(struct reader *reader, const char *word, unsigned kinds, const char *what, unsigned *position)
 {
-    static const char *const kind_words[] = {"an internal cell", "an input", "a control cell", "a three-state output",
-                                             "a two-state output"};
+    static const char *const kind_words[] = {"an internal cell",     "an input",           "a control cell",
+                                             "a three-state output", "a two-state output", "an open-drain output"};
     const struct description *says = &reader->board->says;
     char range[RANGE_SIZE];
     if (!find_number(word, says->names.cell, says->cells, position)) {
@@ -109,7 +109,11 @@ static void note(struct reader *reader, uint8_t *fault, uint8_t value)
 
 /* ---------------------------------------------------------------- cells */
 
-enum { OUTPUTS = 1u << THREE_STATE | 1u << TWO_STATE, PINS = OUTPUTS | 1u << INPUT, CONTROLS = 1u << CONTROL };
+enum {
+    OUTPUTS = 1u << THREE_STATE | 1u << TWO_STATE | 1u << OPEN_DRAIN,
+    PINS = OUTPUTS | 1u << INPUT,
+    CONTROLS = 1u << CONTROL   /* an open-drain output is switched by nothing but its own value: --stuck */
+};
 
 /* P=V: a position, and what it is forced to. */
 struct forced {
@@ -162,6 +166,20 @@ static void take_on(struct reader *reader, char *value)
 static void take_off(struct reader *reader, char *value)
 {
     take_switched(reader, value, 0);
+}
+
+/* ---------------------------------------------------------------- resistors */
+
+/* Only a line with an open-drain output has one. */
+static void take_no_resistor(struct reader *reader, char *value)
+{
+    unsigned net;
+    if (!take_net(reader, value, &net))
+        return;
+    if (is_open_drain_line(reader->board, net))
+        reader->faults->bare[net] = true;
+    else
+        expected(reader, "a net with an open-drain output", value, NULL);
 }
 
 /* ---------------------------------------------------------------- bridges */
@@ -272,7 +290,8 @@ static const struct {
     const char *name;
     void (*take)(struct reader *reader, char *value);
 } takes[] = {{"--and", take_and},     {"--or", take_or},   {"--wins", take_wins},   {"--open", take_open},   {"--stuck", take_stuck},
-             {"--on", take_on},       {"--off", take_off}, {"--fight", take_fight}, {"--float", take_float}, {"--during", take_during}};
+             {"--on", take_on},       {"--off", take_off}, {"--fight", take_fight}, {"--float", take_float}, {"--during", take_during},
+             {"--no-resistor", take_no_resistor}};
 
 /* Reads one option; its value is cut up, and so a copy of it is. */
 static void take_given(struct reader *reader, const struct given *given)

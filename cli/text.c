@@ -36,6 +36,7 @@ static const struct form {
              {"control", CONTROL, ON_FIELD},
              {"three-state", THREE_STATE, NET_FIELD | CONTROL_FIELD},
              {"two-state", TWO_STATE, NET_FIELD},
+             {"open-drain", OPEN_DRAIN, NET_FIELD},
              {"record", 0, EVERY_FIELD}};
 
 enum { FIELDS = sizeof fields / sizeof *fields, FORMS = sizeof forms / sizeof *forms, RECORD_FORM = FORMS - 1 };
@@ -263,7 +264,7 @@ static void read_cell(struct reader *reader, char **word)
         wrong(reader, reader->line, "expected a colon behind the cell's name, found %s %s", word[0], word[1]);
     else
         wrong(reader, reader->line,
-              "expected limit, nets, net, or a cell: internal, input, control, three-state, two-state, record; found %s",
+              "expected limit, nets, net, or a cell: internal, input, control, three-state, two-state, open-drain, record; found %s",
               word[0] != NULL ? word[0] : "nothing");
 }
 
@@ -459,6 +460,7 @@ static bool has_form(const struct description *says, const struct cell *cell)
         return off && no_control && no_net;
     case INPUT:
     case TWO_STATE:
+    case OPEN_DRAIN:
         return off && no_control && net;
     case CONTROL:
         return cell->on <= 1 && no_control && no_net;

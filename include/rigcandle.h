@@ -47,7 +47,7 @@
 #include <stdint.h>
 
 /* The version of library, header and command, and the only place where it stands. */
-#define RIGCANDLE_VERSION "1.0.0"
+#define RIGCANDLE_VERSION "1.1.0"
 
 /* An answer that nobody looks at may be a refusal taken for a clean board: such a call is warned of. */
 #if defined(__GNUC__) || defined(__clang__)
@@ -73,6 +73,10 @@ enum {
 /*
  * The refusals, checked in ascending order: the first that applies is given. 1 to 12 belong to all four questions, 13 to vector, 14 to
  * marks, 15 to the three that write. In brackets what rigcandle_place gives.
+ *
+ * Outputs are cells of kind 3 (three-state), 4 (two-state, always on) and 5 (open-drain); those of kind 3 and 5 are controlled drivers.
+ * Control cells are the cells of kind 2, each with the nets of its kind 3 outputs, and those of kind 5, each with its own one net; so 10
+ * and 11 never give the position of a kind 5 cell.
  */
 enum {
     RIGCANDLE_ACCEPTED = 0,
@@ -82,8 +86,8 @@ enum {
     RIGCANDLE_HEADER_LIMITS = 4,     /* C, N or SSOL outside its limits (0) */
     RIGCANDLE_BLOCK_LAYOUT = 5,      /* wrong number of blocks (0), or a cell block differs from its layout outside the records
                                         (lowest block) */
-    RIGCANDLE_RECORD = 6,            /* a record breaks the table of cell kinds (lowest position) */
-    RIGCANDLE_NO_OUTPUT = 7,         /* a net has no kind 3 or 4 output (lowest net) */
+    RIGCANDLE_RECORD = 6,            /* a record breaks the table of cell kinds, which are 0 to 5 (lowest position) */
+    RIGCANDLE_NO_OUTPUT = 7,         /* a net has no kind 3, 4 or 5 output (lowest net) */
     RIGCANDLE_CLASH = 8,             /* a net has a kind 4 output and another output, or two outputs of one control cell (lowest net) */
     RIGCANDLE_DRIVERS = 9,           /* a net has over 16 controlled drivers (lowest net) */
     RIGCANDLE_CROSSING = 10,         /* two control cells' net sets meet and neither holds the other (lowest position that is the
@@ -109,7 +113,8 @@ extern "C" {
 
 /*
  * The groups of control cells. Writes G rows of R = ceil(C / 8) bytes, group 1 first: the bit at a position is 1 for a control cell that
- * is on. Position c is bit c mod 8 (from the least) of byte c / 8; spare bits are 0.
+ * is on. An open-drain output is a control cell of its own: it is on where it has the turn, and the bit stands at its own position.
+ * Position c is bit c mod 8 (from the least) of byte c / 8; spare bits are 0.
  * Answers G. Refusals 1 to 12 and 15.
  */
 RIGCANDLE_LOOK_AT_ANSWER
@@ -123,14 +128,17 @@ RIGCANDLE_LOOK_AT_ANSWER
 uint64_t count(const uint8_t *file, size_t file_len);
 
 /*
- * The vector of this number, from 0 to total - 1. Writes its row of R bytes, in the groups' bit order: what is shifted into the chain.
+ * The vector of this number, from 0 to total - 1. Writes its row of R bytes, in the groups' bit order: what is shifted into the chain. A
+ * kind 2 cell has its on value when on, else the other; a three-state or two-state output its net's value, on or not; an open-drain output
+ * its net's value when it has the turn, else 1, with which it lets go of its line; inputs and internal cells 0.
  * Answers its group, from 1. Refusals 1 to 12, 13 and 15.
  */
 RIGCANDLE_LOOK_AT_ANSWER
 uint64_t vector(const uint8_t *file, size_t file_len, uint64_t number, uint8_t *out, size_t out_len);
 
 /*
- * The marks for a capture: a row of R bytes for each vector, vector 0 first, in the same bit order; only input cells are looked at.
+ * The marks for a capture: a row of R bytes for each vector, vector 0 first, in the same bit order; only input cells (kind 1) are looked
+ * at, so that an open-drain pin is seen by an input cell of its net and never by its output cell.
  * Writes N bytes, net 0 first, each one of the four marks above.
  * Answers how many nets pass, fail and are unsure. Refusals 1 to 12, 14 and 15.
  */

@@ -1,16 +1,17 @@
-"""The library, asked by client.c, against document 01 in Python: every bit of
-every answer and every byte of every lent buffer.
+"""The library, asked by client.c, against document 01 with request [3] in
+Python: every bit of every answer and every byte of every lent buffer.
 
     python3 compare.py CLIENT...     CLIENT is the command that starts client.c
 
 Boards, damage and captures are drawn by tests/reference/boards.py from a seed,
 which is printed; RIGCANDLE_SEED=n sets it.  What is expected comes from
-tests/reference/document01.py, and for the figures of document 01 from the
-document, by hand.  All cases are asked twice: buffers that end at forbidden
-memory, and buffers that begin after it.
+tests/reference/document01.py, and for the figures of document 01 and of
+open-drain cells from the documents, by hand.  All cases are asked twice:
+buffers that end at forbidden memory, and buffers that begin after it.
 """
 
 import collections
+import functools
 import os
 import random
 import subprocess
@@ -25,6 +26,7 @@ import document01
 QUESTIONS = ("groups", "count", "vector", "marks")
 OWN_REFUSALS = {"groups": (15,), "count": (), "vector": (13, 15), "marks": (14, 15)}
 LEAST_CALLS = 20000  # in each of the two runs
+LEAST_SHARE = 1 / 3  # of the accepted calls: boards with open-drain cells
 MOST_SHOWN = 10      # differences printed
 
 # out is the buffer before the call; bits and after, the buffer afterwards, are what is expected
@@ -103,7 +105,7 @@ def row_figure(label, file, number, group, row):
 def marks_figure(label, file, how, nets, wanted):
     counts = wanted.count(0), wanted.count(1), wanted.count(2) + wanted.count(3)
     return by_hand(label, "marks", file, marked(*counts), bytes(wanted) + SPARE,
-                   capture=boards.tied_capture(file, how, nets), out=b"\xFF\xFF\xFF" + SPARE)
+                   capture=boards.tied_capture(file, how, nets), out=b"\xFF" * len(wanted) + SPARE)
 
 
 def figures_of_e():
@@ -156,7 +158,7 @@ def figures_of_limits():
     at = boards.near_limit(random.Random(1), False, boards.AT_LIMIT)
     yield by_hand("4,096 vectors", "count", at, counted(16, 8, 4096))
     yield by_hand("4,096 vectors, number 4,096", "vector", at, refused(13, 0), SPARE, number=4096, out=SPARE)
-    past = boards.near_limit(random.Random(1), True, boards.PAST_LIMIT)
+    past = boards.near_limit(random.Random(1), True, boards.PAST_LIMIT, share=0)
     yield from refused_by_all("4,098 vectors", past, 12, 0)
 
 
@@ -166,6 +168,61 @@ def figures_of_000():
     rows = b"".join(sum(1 << c for c in on).to_bytes(4, "little") for on in groups)
     yield by_hand("source 000, tables 3 and 5", "groups", boards.table3(), packed((8, 0), (8, 3)),
                   rows + SPARE, out=b"\xFF" * 12 + SPARE)
+
+
+# --------------------------------------------------------------------------
+# Figures of open-drain cells, worked out by hand from request [3]
+# --------------------------------------------------------------------------
+
+LISTING_MIXED = ((1, "01"), (1, "0D"), (2, "0B"), (2, "0F"), (3, "08"), (3, "0D"))
+LISTING_TWO = ((1, "05"), (1, "07"), (1, "03"), (1, "01"), (2, "06"), (2, "07"), (2, "03"))
+
+
+def figures_of_open_drain():
+    mixed, two = boards.mixed_line(), boards.two_lines()
+    yield by_hand("mixed line, groups {3}, {1}, {0}", "groups", mixed, packed((8, 0), (8, 3)),
+                  b"\x08\x02\x01" + SPARE, out=b"\xFF" * 3 + SPARE)
+    yield by_hand("mixed line", "count", mixed, counted(3, 2, 6))
+    for number, (group, row) in enumerate(LISTING_MIXED):
+        yield row_figure("mixed line, listing", mixed, number, group, row)
+    yield by_hand("two lines, groups {1, 2} and {0, 2}", "groups", two, packed((8, 0), (8, 2)),
+                  b"\x06\x05" + SPARE, out=b"\xFF" * 2 + SPARE)
+    yield by_hand("two lines", "count", two, counted(2, 2, 7))
+    for number, (group, row) in enumerate(LISTING_TWO):
+        yield row_figure("two lines, listing", two, number, group, row)
+    yield marks_figure("two lines healthy", two, "healthy", [], [0, 0])
+    yield marks_figure("two lines, wired-AND", two, "and", [0, 1], [1, 1])
+
+
+def figures_of_1024():
+    """Group g turns on the g-th highest cell of each net.  In vector 0 only the
+    highest net's value is 1: all cells in their turn are 0 but the last one."""
+    file = boards.all_open_drain(64)
+    rows = b"".join((1 << 16 - g).to_bytes(2, "little") * 64 for g in range(1, 17))
+    yield by_hand("1,024 open-drain cells, 64 nets", "count", file, counted(16, 7, 112))
+    yield by_hand("1,024 open-drain cells, 64 nets", "groups", file, packed((8, 0), (8, 16)), rows + SPARE,
+                  out=b"\xFF" * 2048 + SPARE)
+    yield row_figure("1,024 open-drain cells, 64 nets", file, 0, 1, "FF7F" * 63 + "FFFF")
+    file = boards.all_open_drain(256)
+    rows = b"".join(bytes([two_nets]) * 128 for two_nets in (0x88, 0x44, 0x22, 0x11))
+    yield by_hand("1,024 open-drain cells, 256 nets", "count", file, counted(4, 9, 36))
+    yield by_hand("1,024 open-drain cells, 256 nets", "groups", file, packed((8, 0), (8, 4)), rows + SPARE,
+                  out=b"\xFF" * 512 + SPARE)
+    yield row_figure("1,024 open-drain cells, 256 nets", file, 0, 1, "77" * 127 + "F7")
+
+
+def refusals_of_open_drain():
+    none = boards.NONE
+    line, control = (5, 0, none, 0), (2, 1, none, none)
+    for label, cells, nets, number, place in (
+            ("kind 6", [line, (6, 0, none, 0)], 1, 6, 1),
+            ("three-state output of an open-drain cell", [line, (3, 0, 0, 0)], 1, 6, 1),
+            ("two-state beside open-drain", [line, (4, 0, none, 0)], 1, 8, 0),
+            ("17 drivers of both kinds", [line] * 16 + [control, (3, 0, 16, 0)], 1, 9, 0),
+            ("sets that cross above an open-drain cell",
+             [line, control, (3, 0, 1, 0), (3, 0, 1, 1), control, (3, 0, 4, 0), (3, 0, 4, 2)], 3, 10, 1),
+            ("set {0, 1}, net 0 with an open-drain cell", [line, control, (3, 0, 1, 0), (3, 0, 1, 1)], 2, 11, 1)):
+        yield from refused_by_all(label, boards.encode(cells, nets, 2), number, place)
 
 
 # --------------------------------------------------------------------------
@@ -240,6 +297,15 @@ def accepted_boards(rng):
         yield "large %d" % i, boards.accepted(rng, size), rng.sample(boards.FAULTS, 2)
     for i in range(6):
         yield "full %d" % i, boards.full(rng), [rng.choice(USUAL_FAULTS)]
+    for i in range(60):
+        size = rng.choice([5, 7, 8, 9, 11, 16, 17, 24, 30, 40])
+        yield "mixed lines %d" % i, boards.mixed(rng, size), rng.sample(boards.FAULTS, 5)
+    for i in range(8):
+        size = rng.choice([85, 168, 169, 300, 1024])
+        yield "more mixed lines %d" % i, boards.mixed(rng, size, limit=1024), rng.sample(boards.FAULTS, 2)
+    for i in range(6):
+        size = rng.choice([513, 1023, 1024])
+        yield "crowded lines %d" % i, boards.crowded(rng, size, limit=1024), [rng.choice(USUAL_FAULTS)]
     yield "4,096 vectors", boards.near_limit(rng, False, boards.AT_LIMIT), ["mixed"]
     for i in range(4):
         yield "near 4,096 vectors %d" % i, boards.near_limit(rng, False), [rng.choice(USUAL_FAULTS)]
@@ -274,12 +340,13 @@ def damaged_boards(rng):
         yield "loose damage %d, %s" % (i, made.label), made.file
     for i in range(12):
         exact = boards.PAST_LIMIT if i == 0 else None
-        yield "over 4,096 vectors %d" % i, boards.near_limit(rng, True, exact)
+        yield "over 4,096 vectors %d" % i, boards.near_limit(rng, True, exact, share=1 if i == 1 else None)
 
 
 def all_cases(seed):
     rng = random.Random(seed)
-    cases = [*figures_of_e(), *figures_of_limits(), *figures_of_000()]
+    cases = [*figures_of_e(), *figures_of_limits(), *figures_of_000(),
+             *figures_of_open_drain(), *figures_of_1024(), *refusals_of_open_drain()]
     for label, file, faults in accepted_boards(rng):
         cases += accepted_calls(rng, label, file, faults)
     for label, file in damaged_boards(rng):
@@ -340,13 +407,29 @@ def differences(cases, answers, placement):
     return found
 
 
+@functools.lru_cache(maxsize=None)
+def kinds_in(file):
+    return {cell.kind for cell in document01.read(file).cells}
+
+
+def has_open_drain(one):
+    """The case's file has cells, and one of them is an open-drain cell."""
+    return one.bits & 255 not in range(1, 6) and document01.OPEN_DRAIN in kinds_in(one.file)
+
+
 def missing(cases):
     """What had to occur and did not."""
-    seen = {(one.question, one.bits & 255) for one in cases}
+    seen = {(one.question, one.bits & 255, has_open_drain(one)) for one in cases}
     for question in QUESTIONS:
         for number in (*range(13), *OWN_REFUSALS[question]):
-            if (question, number) not in seen:
-                yield "refusal %d of %s" % (number, question) if number else "an accepted call of " + question
+            what = "refusal %d of %s" % (number, question) if number else "an accepted call of " + question
+            if (question, number, False) not in seen:
+                yield what
+            if number not in range(1, 6) and (question, number, True) not in seen:
+                yield what + " with open-drain cells"
+    accepted = [one for one in cases if one.bits & 255 == 0]
+    if sum(has_open_drain(one) for one in accepted) < LEAST_SHARE * len(accepted):
+        yield "open-drain cells in %.0f %% of the accepted calls" % (100 * LEAST_SHARE)
     judged = set().union(*(one.after[:document01.header(one.file)[1]]
                            for one in cases if one.question == "marks" and one.bits & 255 == 0))
     yield from ("mark %d" % mark for mark in range(4) if mark not in judged)
@@ -363,6 +446,9 @@ def tell(cases):
     numbers = collections.Counter(one.bits & 255 for one in cases)
     print("compare: all    %5d calls, %5d accepted; refused %s"
           % (len(cases), numbers[0], ", ".join("%d: %d" % (n, k) for n, k in sorted(numbers.items()) if n)))
+    lines = [one for one in cases if has_open_drain(one)]
+    print("compare: open-drain cells in %d of these calls, %d of them accepted"
+          % (len(lines), sum(one.bits & 255 == 0 for one in lines)))
 
 
 def main(client):

@@ -15,6 +15,7 @@ import time
 sys.dont_write_bytecode = True
 import answers
 import fuzz
+import open_drain
 import pages
 import statuses
 import texts
@@ -26,7 +27,7 @@ def parts(sanitized):
     """Name -> function of program and rng."""
     share = 0.1 if sanitized else 1
     made = {"statuses": lambda p, rng: statuses.run(p, rng, ROOT, 1 if sanitized else 2), "answers": lambda p, rng: answers.run(p, rng, share),
-            "texts": lambda p, rng: texts.run(p, rng, share), "pages": lambda p, rng: pages.run(p, rng, share)}
+            "texts": lambda p, rng: texts.run(p, rng, share), "pages": lambda p, rng: pages.run(p, rng, share), "lines": lambda p, rng: open_drain.run(p)}
     return {**made, "fuzz": fuzz.run} if sanitized else made
 
 

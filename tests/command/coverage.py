@@ -26,7 +26,7 @@ sys.dont_write_bytecode = True
 import boards
 import document01
 
-INTERNAL, INPUT, CONTROL, THREE_STATE, TWO_STATE = range(5)
+INTERNAL, INPUT, CONTROL, THREE_STATE, TWO_STATE, OPEN_DRAIN = range(6)
 BEGIN, END = "<!-- coverage -->", "<!-- /coverage -->"
 
 
@@ -39,6 +39,7 @@ class Board:
         self.cells, self.nets, self.total = read.cells, read.nets, kept.total
         self.rows = [kept.row(at) for at in range(self.total)]
         self.seen = {cell.net for cell in self.cells if cell.kind == INPUT}
+        self.open_drain = sorted({cell.net for cell in self.cells if cell.kind == OPEN_DRAIN})  # each has a resistor
 
     def positions(self, *kinds):
         return [q for q, cell in enumerate(self.cells) if cell.kind in kinds]
@@ -79,8 +80,17 @@ def inputs_open(board):
 
 def outputs(board, option, seen):
     """Outputs open or stuck, of nets with an input cell or without."""
-    return [[option, "%d=%d" % (q, v)] for q in board.positions(THREE_STATE, TWO_STATE)
+    return [[option, "%d=%d" % (q, v)] for q in board.positions(THREE_STATE, TWO_STATE, OPEN_DRAIN)
             if (board.net(q) in board.seen) == seen for v in (0, 1)]
+
+
+def open_drain_outputs(board, value):
+    """Open-drain outputs of nets with an input cell, stuck: at 0 they pull for ever, at 1 never."""
+    return [["--stuck", "%d=%d" % (q, value)] for q in board.positions(OPEN_DRAIN) if board.net(q) in board.seen]
+
+
+def no_resistor(board, *floats):
+    return [["--no-resistor", str(net), "--float", level] for net in board.open_drain if net in board.seen for level in floats]
 
 
 def controls(board, seen):
@@ -107,11 +117,11 @@ def on_and_own(board):
             for q in board.switched(c) if board.net(q) in board.seen for v in (0, 1) for wins in ("low", "high")]
 
 
-def on_and_other(board, *options):
+def on_and_other(board, *options, kinds=(THREE_STATE, OPEN_DRAIN)):
     """A control cell stuck on, and something about another output of one of its nets that has an input cell."""
     for c in controls(board, True):
         nets = {board.net(q) for q in board.switched(c)} & board.seen
-        for q in board.positions(THREE_STATE):
+        for q in board.positions(*kinds):
             if board.net(q) in nets and board.cells[q].control != c:
                 yield ["--on", str(c)] + [option.replace("P", str(q)) for option in options]
 
@@ -125,7 +135,8 @@ def lost_fights(board):
 
 
 def won_fights(board):
-    return [*on_and_other(board, "--stuck", "P=0", "--fight", "low"), *on_and_other(board, "--stuck", "P=1", "--fight", "high")]
+    """An open-drain output that is stuck at 1 never pulls, and so wins nothing."""
+    return [*on_and_other(board, "--stuck", "P=0", "--fight", "low"), *on_and_other(board, "--stuck", "P=1", "--fight", "high", kinds=(THREE_STATE,))]
 
 
 CLASSES = (
@@ -149,6 +160,13 @@ CLASSES = (
     ("a control cell stuck on, and another output of one of its nets stuck at the value that loses a fight", lost_fights),
     ("a control cell stuck on, and another output of one of its nets stuck at the value that wins a fight", won_fights),
     ("a control cell that switches nothing, stuck (on, off)", switch_nothing),
+    ("an open-drain output that pulls for ever, its net has an input cell", lambda b: open_drain_outputs(b, 0)),
+    ("an open-drain output that never pulls, its net has an input cell", lambda b: open_drain_outputs(b, 1)),
+    ("a control cell stuck on, and an open-drain output of one of its nets that never pulls",
+     lambda b: on_and_other(b, "--stuck", "P=1", kinds=(OPEN_DRAIN,))),
+    ("the resistor of an open-drain line missing, its net has an input cell and floats to 1", lambda b: no_resistor(b, "1")),
+    ("the resistor of an open-drain line missing, its net has an input cell and floats to 0 or keeps its level",
+     lambda b: no_resistor(b, "0", "keep")),
     ("in one vector only: any two nets tied (all four ways)", lambda b: in_one_vector(b, all_bridges(b))),
     ("in one vector only: an input pin open (reads 0, reads 1)", lambda b: in_one_vector(b, inputs_open(b))),
     ("in one vector only: an output stuck (at 0, at 1), its net has an input cell",
@@ -162,7 +180,7 @@ CLASSES = (
 
 class Faults:
     def __init__(self, words):
-        self.stuck, self.open, self.switch, self.tied = {}, {}, {}, []
+        self.stuck, self.open, self.switch, self.tied, self.bare = {}, {}, {}, [], set()
         self.fight, self.afloat, self.during = min, "1", range(1 << 16)
         for option, value in zip(words[::2], words[1::2]):
             numbers = [int(n) for n in value.replace(":", ",").replace("=", ",").replace("-", ",").split(",") if n.isdigit()]
@@ -172,6 +190,8 @@ class Faults:
                 self.switch[numbers[0]] = option == "--on"
             elif option in ("--and", "--or", "--wins"):
                 self.tied.append((option, numbers))
+            elif option == "--no-resistor":
+                self.bare.add(numbers[0])
             elif option == "--fight":
                 self.fight = {"low": min, "high": max}[value]
             elif option == "--float":
@@ -183,15 +203,30 @@ class Faults:
 NO_FAULTS = Faults([])
 
 
+def drives(board, row, faults, q):
+    """Whether the output at q drives its net: an open-drain output where it pulls."""
+    bit = lambda c: row[c // 8] >> c % 8 & 1
+    kind, control = board.cells[q].kind, board.cells[q].control
+    if q in faults.open:
+        return False
+    if kind == THREE_STATE:
+        return faults.switch.get(control, bit(control) == board.cells[control].on)
+    return kind == TWO_STATE or faults.stuck.get(q, bit(q)) == 0
+
+
+def held(board, faults):
+    """Net -> 1, for the nets that their own resistor, or that of a net tied to them, holds where nothing drives them."""
+    own = set(board.open_drain) - faults.bare
+    tied = {net for _, nets in faults.tied if own.intersection(nets) for net in nets}
+    return {net: 1 for net in own | tied}
+
+
 def driven(board, row, faults):
     """Net -> the value that its outputs give it, for the nets that have one."""
-    bit = lambda q: row[q // 8] >> q % 8 & 1
     given = {}
-    for q in board.positions(THREE_STATE, TWO_STATE):
-        control = board.cells[q].control
-        on = board.cells[q].kind == TWO_STATE or faults.switch.get(control, bit(control) == board.cells[control].on)
-        if on and q not in faults.open:
-            given.setdefault(board.net(q), []).append(faults.stuck.get(q, bit(q)))
+    for q in board.positions(THREE_STATE, TWO_STATE, OPEN_DRAIN):
+        if drives(board, row, faults, q):
+            given.setdefault(board.net(q), []).append(faults.stuck.get(q, row[q // 8] >> q % 8 & 1))
     own = {net: faults.fight(values) for net, values in given.items()}
     level = dict(own)
     for option, nets in faults.tied:
@@ -208,7 +243,7 @@ def model(board, words):
         faults = given if at in given.during else NO_FAULTS
         floats = {net: old if faults.afloat == "keep" else int(faults.afloat) for net, old in level.items()}
         floats.update({board.net(q): v for q, v in faults.open.items() if board.cells[q].kind != INPUT})
-        level = {**floats, **driven(board, row, faults)}
+        level = {**floats, **held(board, faults), **driven(board, row, faults)}
         ones = sum(1 << q for q in board.positions(INPUT) if faults.open.get(q, level[board.net(q)]))
         capture += ones.to_bytes(len(row), "little")
     return capture
@@ -287,9 +322,9 @@ def e_unseen(path):
 def table(command, folder):
     """The table's lines; "3 of 12" are three faults of twelve that change no mark."""
     judged = [Board(path) for path in (os.path.join(EXAMPLES, "board-e.bsin"), e_unseen(os.path.join(folder, "board-e-unseen.bsin")),
-                                       os.path.join(EXAMPLES, "board-bus.bsin"))]
-    yield "| fault | board E | E without the inputs at 8 and 9 | bus board |"
-    yield "|---|---|---|---|"
+                                       os.path.join(EXAMPLES, "board-bus.bsin"), os.path.join(EXAMPLES, "board-i2c.bsin"))]
+    yield "| fault | board E | E without the inputs at 8 and 9 | bus board | I2C board |"
+    yield "|---|---|---|---|---|"
     for words, faults in CLASSES:
         yield "| %s | %s |" % (words, " | ".join(number(command, board, list(faults(board))) for board in judged))
 

@@ -13,11 +13,11 @@ sys.path.insert(0, os.path.join(HERE, "..", "reference"))
 sys.dont_write_bytecode = True
 import boards
 import document01
-from document01 import CONTROL, INPUT, THREE_STATE, TWO_STATE
+from document01 import CONTROL, INPUT, OPEN_DRAIN, THREE_STATE, TWO_STATE
 
 NONE = document01.NONE
 MARKS = ("pass", "fail", "unsure, not seen", "unsure, read twice")
-KINDS = ("internal", "input", "control", "three-state output", "two-state output")
+KINDS = ("internal", "input", "control", "three-state output", "two-state output", "open-drain output")
 
 
 class Names:
@@ -88,6 +88,11 @@ def unseen(board):
     return [net for net in range(board.nets) if net not in seen]
 
 
+def open_drain(board):
+    lines = {cell.net for cell in board.cells if cell.kind == OPEN_DRAIN}
+    return [net for net in range(board.nets) if net in lines]
+
+
 def idle(board):
     return [c for c, nets in sorted(document01.net_sets(board).items()) if not nets]
 
@@ -116,6 +121,9 @@ def accepted(file, rate=1e7, names=NO_NAMES):
     yield told("nets without an input cell", [names.net(net) for net in unseen(board)])
     if unseen(board):
         yield "no capture of this board is a RELEASE: a net that no input cell reads is unsure"
+    if open_drain(board):
+        yield told("nets with an open-drain output", [names.net(net) for net in open_drain(board)])
+        yield "each of these needs a resistor that holds it at 1; a pass does not show that it is there"
     yield told("control cells that switch nothing", [names.cell(c) for c in idle(board)])
     yield time_of(kept.total + 1, len(board.cells), rate)
 
@@ -173,25 +181,31 @@ def about_block(file, place, names):
     yield from wrong_bytes(document01.blocks(file)[place], padded(place, 0, 2, records), range(4, 4 + 6 * records))
 
 
+def kind_word(kind):
+    return "kind %d (%s)" % (kind, KINDS[kind] if kind < len(KINDS) else "no kind")
+
+
 def about_record(file, place, names):
     board = document01.read(file)
     cell = board.cells[place]
     number = lambda n: "none" if n == NONE else str(n)
-    word = KINDS[cell.kind] if cell.kind < 5 else "no kind"
-    yield ("  %s: kind %d (%s), on value %d, control %s, net %s"
-           % (names.cell(place), cell.kind, word, cell.on, number(cell.control), number(cell.net)))
-    if cell.kind > 4:
-        yield "  kinds are 0 to 4"
+    yield ("  %s: %s, on value %d, control %s, net %s"
+           % (names.cell(place), kind_word(cell.kind), cell.on, number(cell.control), number(cell.net)))
+    if cell.kind > 5:
+        yield "  kinds are 0 to 5"
         return
     on = "0 or 1" if cell.kind == CONTROL else "0"
     control = "the position of a kind 2 cell as control" if cell.kind == THREE_STATE else "control none"
-    net = "net below N" if cell.kind in (INPUT, THREE_STATE, TWO_STATE) else "net none"
+    net = "net below N" if cell.kind in (INPUT, THREE_STATE, TWO_STATE, OPEN_DRAIN) else "net none"
     yield "  a cell of this kind has on value %s, %s, %s; N is %d" % (on, control, net, board.nets)
+    if cell.kind == THREE_STATE and cell.control < len(board.cells) and board.cells[cell.control].kind != CONTROL:
+        yield "  %s: %s" % (names.cell(cell.control), kind_word(board.cells[cell.control].kind))
 
 
 def about_net(file, place, names):
     yield "  %s:" % names.net(place)
-    on_net = [(q, cell) for q, cell in enumerate(document01.read(file).cells) if cell.kind in (INPUT, THREE_STATE, TWO_STATE) and cell.net == place]
+    pins = (INPUT, THREE_STATE, TWO_STATE, OPEN_DRAIN)
+    on_net = [(q, cell) for q, cell in enumerate(document01.read(file).cells) if cell.kind in pins and cell.net == place]
     for q, cell in on_net:
         switched = ", switched by " + names.cell(cell.control) if cell.kind == THREE_STATE else ""
         yield "  %s: %s%s" % (names.cell(q), KINDS[cell.kind], switched)
@@ -206,11 +220,17 @@ def about_crossing(file, place, names):
     yield line(min(c for c in sets if c > place and sets[c] & sets[place] and sets[c] - sets[place] and sets[place] - sets[c]))
 
 
+def drivers_told(board, net):
+    """How many controlled drivers, and how many of these no control cell of another position switches."""
+    kinds = [cell.kind for cell in board.cells if cell.kind in (THREE_STATE, OPEN_DRAIN) and cell.net == net]
+    open_ones = kinds.count(OPEN_DRAIN)
+    return "(%d controlled driver%s%s)" % (len(kinds), "s" if len(kinds) != 1 else "", ", %d of them open-drain" % open_ones if open_ones else "")
+
+
 def about_uneven(file, place, names):
     board = document01.read(file)
-    drivers = lambda net: sum(cell.kind == THREE_STATE and cell.net == net for cell in board.cells)
     nets = sorted(document01.net_sets(board)[place])
-    yield "  %s switches %s" % (names.cell(place), ", ".join("%s (%d controlled driver%s)" % (names.net(net), drivers(net), "s" if drivers(net) != 1 else "") for net in nets))
+    yield "  %s switches %s" % (names.cell(place), ", ".join("%s %s" % (names.net(net), drivers_told(board, net)) for net in nets))
 
 
 def about_vectors(file, place, names):

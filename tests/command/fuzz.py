@@ -11,8 +11,8 @@ from texts import TOLD, Writer, noise
 
 NUMBERS = ("0", "1", "2", "-1", "255", "256", "257", "1023", "1024", "1025", "65534", "65535", "65536", "4294967295", "4294967296", "4294967297",
            "18446744073709551615", "18446744073709551616", "00000000000000000000000000000000000001", "9" * 100, "1e3", "0x1", "")
-WORDS = ("limit", "nets", "net", "internal", "input", "control", "three-state", "two-state", "record", "on", "kind", "none", "#", ":", "A:", "a,b",
-         "=", *NUMBERS)
+WORDS = ("limit", "nets", "net", "internal", "input", "control", "three-state", "two-state", "open-drain", "record", "on", "kind", "none", "#", ":",
+         "A:", "a,b", "=", *NUMBERS)
 
 
 # --------------------------------------------------------------------------
@@ -80,7 +80,12 @@ def mutated_text(rng):
     return text
 
 
+def has_open_drain(file):
+    return any(cell.kind == document01.OPEN_DRAIN for cell in document01.read(file).cells)
+
+
 def try_text(program, rng):
+    """Gives whether it was a whole text of an accepted board with an open-drain output."""
     text = mutated_text(rng)
     ran = program.run("make", "-", "-", given=text)
     if ran.status in (0, 2):
@@ -92,6 +97,7 @@ def try_text(program, rng):
         program.check(ran.words, ran.status == 3 and lines and lines == sorted(lines), "status %s, lines %s" % (ran.status, lines[:20]))
     if rng.random() < 0.2:
         named_text(program, rng, text, ran)
+    return ran.status == 0 and has_open_drain(ran.out)
 
 
 def named_text(program, rng, text, made):
@@ -114,8 +120,8 @@ def mutated_board(rng):
     if what == 1:
         return boards.encode(*noise(rng))
     if what == 2:
-        return boards.resealed(change_bytes(rng, boards.board_e())[:7168])
-    file = boards.accepted(rng, rng.choice([3, 12, 40, 90]), limit=64)
+        return boards.resealed(change_bytes(rng, rng.choice([boards.board_e, boards.mixed_line, boards.two_lines])())[:7168])
+    file = boards.accepted(rng, rng.choice([3, 12, 40, 90]), limit=64, share=rng.choice([None, 0.5, 1]))
     return change_bytes(rng, file) if what == 3 else file
 
 
@@ -129,7 +135,7 @@ def some_faults(rng, cells, nets):
     """Options of simulate with numbers that are near to right."""
     number = lambda most: str(rng.choice([0, most - 1, rng.randrange(most), rng.randrange(most), most, rng.choice(NUMBERS)]))
     for _ in range(rng.choice([0, 1, 2, 5])):
-        option = rng.choice(["--and", "--or", "--wins", "--open", "--stuck", "--on", "--off", "--fight", "--float", "--during"])
+        option = rng.choice(["--and", "--or", "--wins", "--open", "--stuck", "--on", "--off", "--no-resistor", "--fight", "--float", "--during"])
         if option in ("--and", "--or"):
             yield from (option, ",".join(number(nets) for _ in range(rng.choice([1, 2, 2, 3, 200]))))
         elif option == "--wins":
@@ -138,11 +144,14 @@ def some_faults(rng, cells, nets):
             yield from (option, number(cells) + rng.choice(["=0", "=1", "=2", "="]))
         elif option in ("--on", "--off"):
             yield from (option, number(cells))
+        elif option == "--no-resistor":
+            yield from (option, number(nets))
         else:
             yield from (option, rng.choice(["low", "high", "0", "1", "keep", "0-1", "1-0", "-", number(9) + "-" + number(9)]))
 
 
 def try_board(program, rng):
+    """Gives whether it was an accepted board with an open-drain output."""
     file = mutated_board(rng)
     accepted = document01.verdict(file) == (0, 0)
     status, verdict = 0 if accepted else 2, None if accepted else document01.verdict(file)
@@ -156,6 +165,7 @@ def try_board(program, rng):
         program.check(ran.words, ran.status in ((0, 3) if accepted else (2, 3)), "status %s" % ran.status)
     else:
         program.expect(status, name, "fuzz.bsin", refusal=verdict)
+    return accepted and has_open_drain(file)
 
 
 def try_capture(program, rng, name, file, verdict):
@@ -168,7 +178,6 @@ def try_capture(program, rng, name, file, verdict):
 
 
 def run(program, rng):
-    for _ in range(1300):
-        try_text(program, rng)
-    for _ in range(1300):
-        try_board(program, rng)
+    for what, attempt in (("text", try_text), ("board", try_board)):
+        accepted = sum(attempt(program, rng) for _ in range(1300))
+        program.check(("fuzz",), accepted > 5, "an accepted %s with an open-drain output came up %d times" % (what, accepted))

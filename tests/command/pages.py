@@ -38,9 +38,9 @@ def check_page(program, typed, board, capture):
 
 
 def examples(program):
-    """Board E with the captures that are there, and the bus board with captures of simulate."""
-    for name in ("healthy", "bridged", "open"):
-        files = [os.path.join(EXAMPLES, one) for one in ("board-e.bsin", "board-e-%s.capture" % name)]
+    """Board E and the I2C board with the captures that are there, and the bus board with captures of simulate."""
+    for board, name in (("e", "healthy"), ("e", "bridged"), ("e", "open"), ("i2c", "healthy"), ("i2c", "bridged"), ("i2c", "held")):
+        files = [os.path.join(EXAMPLES, one) for one in ("board-%s.bsin" % board, "board-%s-%s.capture" % (board, name))]
         check_page(program, files, *(read("", one) for one in files))
     bus = read(EXAMPLES, "board-bus.bsin")
     write(program.folder, "bus.bsin", bus)

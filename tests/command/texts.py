@@ -23,18 +23,23 @@ def noise(rng):
     some = lambda: rng.randrange(count)
     control = lambda q: rng.choice([NONE, NONE, 65534, q, 0, count - 1, count, count + 1, some(), some(), rng.randrange(65536)])
     net = lambda: rng.choice([NONE, 65534, 0, nets - 1, nets, rng.randrange(nets), rng.randrange(nets), rng.randrange(65536)])
-    kind = lambda: rng.choice([0, 1, 2, 2, 2, 3, 3, 3, 4, 5, 255, rng.randrange(256)])
+    kind = lambda: rng.choice([0, 1, 2, 2, 2, 3, 3, 3, 4, 5, 5, 6, 255, rng.randrange(256)])
     on = lambda: rng.choice([0, 0, 0, 1, 1, 2, 255, rng.randrange(256)])
     return [(kind(), on(), control(q), net()) for q in range(count)], nets, rng.choice([1, 2, 1024, rng.randint(1, 1024)])
 
 
 def telling_records():
-    """Few cells, each sort of reference to each sort of control cell: whole, broken, itself, beyond."""
+    """Few cells, each sort of reference to each sort of control cell: whole, broken, itself, beyond; and open-drain records, whole and
+    broken."""
     whole, on_2, with_net, with_control = (2, 1, NONE, NONE), (2, 2, NONE, NONE), (2, 0, NONE, 0), (2, 0, 0, NONE)
-    for first in (whole, on_2, with_net, with_control, (3, 0, 0, 0), (3, 0, 1, 0), (255, 0, NONE, NONE), (0, 0, NONE, NONE)):
+    for first in (whole, on_2, with_net, with_control, (3, 0, 0, 0), (3, 0, 1, 0), (5, 0, NONE, 0), (255, 0, NONE, NONE), (0, 0, NONE, NONE)):
         for control in (0, 1, 2, 3, 65534, NONE):
             for net in (0, 1, 65534, NONE):
                 yield boards.encode([first, (3, 0, control, net), (4, 0, NONE, 0)], 1, 1)
+    for on in (0, 1, 255):
+        for control in (0, 1, 2, 65534, NONE):
+            for net in (0, 1, 65534, NONE):
+                yield boards.encode([whole, (5, on, control, net), (1, 0, NONE, 0)], 1, 1)
 
 
 def layout_right(file):
@@ -83,7 +88,7 @@ def check_round(program, file):
 # A writer of texts, in any style
 # --------------------------------------------------------------------------
 
-ODD_NAMES = ("net", "nets", "limit", "internal", "input", "control", "three-state", "two-state", "record", "on", "kind", "None", "NONE", "-", "--",
+ODD_NAMES = ("net", "nets", "limit", "internal", "input", "control", "three-state", "two-state", "open-drain", "record", "on", "kind", "None", "NONE", "-", "--",
              "+1", "-1", "1a", "0x10", "1.0", "a#b", "<b>", "&amp;", "\"x\"", "'", "a'b", "\\n", "%s%n", "*", "/../", "n" * 63, "ä" * 31,
              "\udcff\udcfe", "名前", "A.1", "[3]", "D(0)", ";", "!", "@home", "none0", "nonE", "$HOME", "`x`", "<script>alert(1)</script>")
 
@@ -104,7 +109,8 @@ def some_names(rng, number):
 
 
 # What a cell's line begins with, by kind, and the values it then has.
-FORMS = (("internal", ()), ("input", ("net",)), ("control", ("on",)), ("three-state", ("net", "control")), ("two-state", ("net",)))
+FORMS = (("internal", ()), ("input", ("net",)), ("control", ("on",)), ("three-state", ("net", "control")), ("two-state", ("net",)),
+         ("open-drain", ("net",)))
 
 
 class Writer:
@@ -130,7 +136,7 @@ class Writer:
 
     def cell_words(self, position):
         cell = self.cells[position]
-        word, wanted = FORMS[cell[0] % 5]
+        word, wanted = FORMS[cell[0] % len(FORMS)]
         switched_by_record = cell[0] == 3 and cell[2] < len(self.cells) and self.as_record[cell[2]]
         if self.as_record[position] or switched_by_record:
             word, wanted = "record", ("kind", "on", "control", "net")
@@ -299,7 +305,7 @@ def check_page(program):
 
 def check_examples(program):
     """Each example that has a text is made from it."""
-    for name in ("board-e", "board-bus"):
+    for name in ("board-e", "board-bus", "board-i2c"):
         path = os.path.join(ROOT, "examples", name)
         program.expect(0, "make", path + ".txt", "-", out=read(os.path.dirname(path), name + ".bsin"))
 

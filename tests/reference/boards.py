@@ -2,13 +2,20 @@
 
     encode(cells, nets, limit)      a file with right sums from (kind, on, control, net)
     board_e(limit), table3()        the named boards
+    mixed_line(), two_lines()       two small boards with open-drain cells
+    all_open_drain(nets)            1,024 open-drain cells, equally many on each net
     accepted(rng, size)             a random board of at most `size` cells that is accepted
     full(rng)                       accepted, 1,024 cells, 256 nets, degree 16
+    mixed(rng, size)                accepted, open-drain cells beside control cells of many nets
+    crowded(rng, size)              accepted, hardly anything but drivers on single nets
     near_limit(rng, over)           a board whose vector total is close to 4,096
     damaged(rng, number)            Damaged(label, file, expected)
     capture(rng, file, fault)       a capture for an accepted board; FAULTS names the faults
 
     python3 boards.py COUNT SEED    runs COUNT boards of each sort through document01
+
+Of the drivers that stand alone on their control cell, a random board has a
+share that are open-drain cells: one of SHARES, or `share` where it is given.
 
 `expected` of damage is worked out here from how the damage was made, not by
 asking document01, so that the two check each other.
@@ -22,6 +29,7 @@ from collections import namedtuple
 import document01
 
 NONE = 65535
+SHARES = (0, 0, 0.2, 0.5, 0.8, 1)
 Damaged = namedtuple("Damaged", "label file expected")  # expected: (number, place) or None
 
 
@@ -104,6 +112,27 @@ def table3(limit=6, on=1):
     return encode(cells_table3(on), 6, limit)
 
 
+def mixed_line(limit=1):
+    """One line with two open-drain cells and a three-state driver."""
+    return encode([(5, 0, NONE, 0),       # 0 open-drain net 0
+                   (2, 1, NONE, NONE),    # 1 control on 1
+                   (3, 0, 1, 0),          # 2 three-state net 0, control 1
+                   (5, 0, NONE, 0),       # 3 open-drain net 0
+                   (1, 0, NONE, 0)],      # 4 input of net 0
+                  1, limit)
+
+
+def two_lines(limit=1):
+    """Two lines: open-drain cells 0 and 1 on net 0, 2 on net 1; an input of each."""
+    return encode([(5, 0, NONE, 0), (5, 0, NONE, 0), (5, 0, NONE, 1),
+                   (1, 0, NONE, 0), (1, 0, NONE, 1)], 2, limit)
+
+
+def all_open_drain(nets, limit=1024):
+    """1,024 open-drain cells, equally many on each net, one net after the other."""
+    return encode([(5, 0, NONE, q * nets // 1024) for q in range(1024)], nets, limit)
+
+
 # --------------------------------------------------------------------------
 # Drafts: boards before positions and net numbers are given out
 # --------------------------------------------------------------------------
@@ -111,9 +140,10 @@ def table3(limit=6, on=1):
 class Draft:
     """cells: [kind, on, control, net]; control is an index into cells."""
 
-    def __init__(self):
+    def __init__(self, share):
         self.cells = []
         self.nets = 0
+        self.share = share
 
     def net(self):
         self.nets += 1
@@ -124,27 +154,32 @@ class Draft:
         return len(self.cells) - 1
 
     def driver_set(self, rng, nets):
-        """A control cell with one output on each of these nets."""
+        """A control cell with one output on each of these nets.  On a single
+        net it is, by the draft's share, an open-drain cell."""
+        if len(nets) == 1 and self.share and rng.random() < self.share:
+            return self.add(5, net=nets[0])
         c = self.add(2, on=rng.randint(0, 1))
         for net in nets:
             self.add(3, control=c, net=net)
         return c
 
     def outputs(self, net):
-        return [q for q, cell in enumerate(self.cells) if cell[0] in (3, 4) and cell[3] == net]
+        return [q for q, cell in enumerate(self.cells) if cell[0] in (3, 4, 5) and cell[3] == net]
 
     def masks(self):
-        """Control cell -> its net set as a number."""
+        """Control cell -> its net set as a number; an open-drain cell has its one net."""
         found = {q: 0 for q, cell in enumerate(self.cells) if cell[0] == 2}
-        for cell in self.cells:
+        for q, cell in enumerate(self.cells):
             if cell[0] == 3:
                 found[cell[2]] |= 1 << cell[3]
+            elif cell[0] == 5:
+                found[q] = 1 << cell[3]
         return found
 
     def drivers(self):
         found = [0] * self.nets
         for cell in self.cells:
-            if cell[0] == 3:
+            if cell[0] in (3, 5):
                 found[cell[3]] += 1
         return found
 
@@ -200,10 +235,17 @@ def laminar(rng, nets, degree):
     return out
 
 
-def draft(rng, size, nets=None, degree=None, fill=None):
+def cells_for(family, share):
+    """At most so many cells take these net sets."""
+    return sum(1 if share == 1 and len(s) == 1 else 1 + len(s) for s in family)
+
+
+def draft(rng, size, nets=None, degree=None, fill=None, share=None):
     """A draft that will be accepted, of at most `size` cells (exactly `size`
     with fill); with exactly `nets` nets and largest degree `degree` if given."""
-    d = Draft()
+    if share is None:
+        share = rng.choice(SHARES)
+    d = Draft(share)
     if nets is None:
         most = min(256, size)
         nets = rng.randint(1, rng.choice([most, most, max(1, most // 2), max(1, most // 4),
@@ -220,14 +262,16 @@ def draft(rng, size, nets=None, degree=None, fill=None):
         if first and (m + 1) * deg > spare:
             m, spare = 1, room - len(d.cells) - (left - 1)
         family = laminar(rng, range(m), deg) if deg else []
-        if first and sum(1 + len(s) for s in family) > spare:
+        if share and rng.random() < share / 4:
+            family = [[i] for i in range(m)] * deg
+        if first and cells_for(family, share) > spare:
             family = [list(range(m))] * deg
-        if not first and sum(1 + len(s) for s in family) > spare:
+        if not first and cells_for(family, share) > spare:
             deg = 0
         new = [d.net() for _ in range(m)]
         if deg == 0:
             for net in new:
-                d.add(4, net=net)
+                d.add(5 if share and rng.random() < share / 2 else 4, net=net)
         for s in family if deg else []:
             d.driver_set(rng, [new[i] for i in s])
         left -= m
@@ -254,6 +298,33 @@ def draft(rng, size, nets=None, degree=None, fill=None):
     return d
 
 
+def crowd(rng, size, share):
+    """A draft of exactly `size` cells (2 to 1,024) that will be accepted: each
+    net has drivers on itself alone, and few cells are anything else."""
+    d = Draft(share)
+    need = cells_for([[0]], share)
+    most = rng.choice([2, 4, 16, 16])
+    least = rng.choice([1, most])
+    seen = rng.choice([0, 0, 0.1, 0.5])
+    while len(d.cells) + need <= size and d.nets < 256:
+        net = d.net()
+        for _ in range(rng.randint(least, most)):
+            if len(d.cells) + need <= size:
+                d.driver_set(rng, [net])
+        if len(d.cells) < size and rng.random() < seen:
+            d.add(1, net=net)
+    while len(d.cells) < size:
+        d.add(1, net=rng.randrange(d.nets))
+    return d
+
+
+def some_draft(rng, size):
+    """A draft of either sort, with open-drain cells in any share."""
+    if size >= 2 and rng.random() < 0.08:
+        return crowd(rng, size, rng.choice([0.5, 0.9, 1, 1]))
+    return draft(rng, size)
+
+
 def limit_for(rng, nets, turns):
     """A random SSOL with which the total stays within 4,096."""
     limit = rng.choice([1, 1, 2, 3, rng.randint(1, nets), rng.randint(1, nets), nets,
@@ -263,22 +334,45 @@ def limit_for(rng, nets, turns):
     return limit
 
 
-def accepted(rng, size, limit=None):
-    """A random accepted board of at most `size` cells (1 to 1,024)."""
-    d = draft(rng, size)
+def placed(rng, d, limit):
+    """The draft as a file, with a random SSOL where limit is None."""
     cells, _, _ = d.arrange(rng)
     if limit is None:
         limit = limit_for(rng, d.nets, max([1] + d.drivers()))
     return encode(cells, d.nets, limit)
 
 
-def full(rng, limit=None):
+def accepted(rng, size, limit=None, share=None):
+    """A random accepted board of at most `size` cells (1 to 1,024)."""
+    d = some_draft(rng, size) if share is None else draft(rng, size, share=share)
+    return placed(rng, d, limit)
+
+
+def full(rng, limit=None, share=None):
     """1,024 cells, 256 nets, largest degree 16."""
-    d = draft(rng, 1024, nets=256, degree=16, fill=True)
-    cells, _, _ = d.arrange(rng)
-    if limit is None:
-        limit = limit_for(rng, 256, 16)
-    return encode(cells, d.nets, limit)
+    return placed(rng, draft(rng, 1024, nets=256, degree=16, fill=True, share=share), limit)
+
+
+def mixed(rng, size, limit=None):
+    """Bundles of nets with two drivers or more each, as many as fit: control
+    cells of several nets and, in most bundles, open-drain cells besides."""
+    d = Draft(rng.choice([0.3, 0.6, 1]))
+    d.add(5, net=d.net())
+    for _ in range(size):
+        m, degree = rng.choice([1, 2, 2, 3, 4, 8]), rng.randint(2, rng.choice([2, 3, 4, 16]))
+        family = laminar(rng, range(m), degree)
+        if len(d.cells) + cells_for(family, d.share) + m <= size and d.nets + m <= 256:
+            new = [d.net() for _ in range(m)]
+            for s in family:
+                d.driver_set(rng, [new[i] for i in s])
+            for net in rng.sample(new, rng.randint(0, m)):
+                d.add(1, net=net)
+    return placed(rng, d, limit)
+
+
+def crowded(rng, size, limit=None, share=1):
+    """A crowd that is accepted, of exactly `size` cells."""
+    return placed(rng, crowd(rng, size, share), limit)
 
 
 @functools.lru_cache(maxsize=1)
@@ -302,7 +396,7 @@ def around_limit():
     return below, above
 
 
-def near_limit(rng, over=None, exact=None):
+def near_limit(rng, over=None, exact=None, share=None):
     """A board whose total is at most 4,096 but close to it, or a little above
     it with `over` (refused 12).  exact = (N, G, SSOL) to have those."""
     if over is None:
@@ -310,7 +404,7 @@ def near_limit(rng, over=None, exact=None):
     if exact is None:
         exact = rng.choice(around_limit()[1 if over else 0])
     nets, turns, limit = exact
-    d = draft(rng, rng.randint(nets + 2 * turns, 1024), nets=nets, degree=turns)
+    d = draft(rng, rng.randint(nets + 2 * turns, 1024), nets=nets, degree=turns, share=share)
     cells, _, _ = d.arrange(rng)
     return encode(cells, nets, limit)
 
@@ -325,7 +419,7 @@ PAST_LIMIT = (183, 16, 3)  # 4,098 vectors
 # --------------------------------------------------------------------------
 
 def free_nets(d):
-    """Three-state nets with under 16 drivers."""
+    """Nets with controlled drivers, but under 16."""
     return [net for net, k in enumerate(d.drivers()) if 1 <= k < 16]
 
 
@@ -357,7 +451,8 @@ def fault_8(rng, d):
                 d.add(3, control=rng.choice(controls), net=net)
             else:
                 d.driver_set(rng, [net])
-        elif rng.random() < 0.3:
+        elif d.cells[q][0] == 5 or rng.random() < 0.3:
+            # beside an open-drain cell only a kind 4 output clashes
             d.add(4, net=net)
         else:
             for _ in range(rng.choice([1, 1, 2, 16])):
@@ -446,7 +541,7 @@ def fault_11(rng, d):
             inner = min((c for c, s in masks.items() if s >> net & 1),
                         key=lambda c: bin(masks[c]).count("1"))
             for q, cell in enumerate(d.cells):
-                if cell[0] == 3 and cell[2] == inner and cell[3] == net:
+                if q == inner and cell[0] == 5 or cell[0] == 3 and (cell[2], cell[3]) == (inner, net):
                     d.cells[q] = [0, 0, None, None]
 
 
@@ -480,11 +575,20 @@ def fault_6(rng, cells, nets):
     broken = set()
     count = len(cells)
     word = lambda low: rng.choice([low, rng.randint(low, 65535), 65535, min(65535, low + 1), 65534])
-    for q in rng.sample(range(count), min(count, rng.choice([1, 1, 1, 2, 3]))):
+    faults = min(count, rng.choice([1, 1, 1, 2, 3]))
+    threes, lines = ([q for q in range(count) if before[q][0] == kind] for kind in (3, 5))
+    if threes and lines and rng.random() < 0.25:
+        # a three-state output with an open-drain cell for its control cell
+        q = rng.choice(threes)
+        cells[q][2] = rng.choice(lines)
+        broken.add(q)
+        faults -= 1
+    for q in rng.sample(range(count), faults):
         kind = before[q][0]
         field = rng.randrange(4)
         if field == 0:
-            cells[q][0] = rng.choice([5, 255, rng.randint(5, 255)])
+            # kind 5 breaks where the record has no net, or a control position
+            cells[q][0] = rng.choice([6, 255, rng.randint(6, 255)] + [5] * (kind in (0, 2, 3)))
             if kind == 2:
                 broken |= {r for r in range(count) if before[r][0] == 3 and before[r][2] == q}
         elif field == 1:
@@ -613,11 +717,12 @@ def fault_1(rng, file):
 def loose(rng, size):
     """Damage whose verdict is not known beforehand."""
     if rng.random() < 0.7:
-        d = draft(rng, size)
+        d = some_draft(rng, size)
         cells, _, _ = d.arrange(rng)
         nets = d.nets
     else:
-        cells, nets = cells_e(), 3
+        board = document01.read(rng.choice([board_e, mixed_line, two_lines])())
+        cells, nets = board.cells, board.nets
     limit = rng.choice([1, 2, rng.randint(1, nets), 1024])
     what = rng.randrange(7)
     if what == 0:
@@ -645,7 +750,7 @@ def loose(rng, size):
             cell = rng.choice(cells)
             field = rng.randrange(4)
             if field == 0:
-                cell[0] = rng.randrange(6)
+                cell[0] = rng.randrange(7)
             elif field == 1:
                 cell[1] = rng.randrange(3)
             else:
@@ -658,14 +763,16 @@ def loose(rng, size):
         cells = [list(cell) for cell in cells]
         for _ in range(rng.choice([1, 2, 4, 10])):
             cell = rng.choice(cells)
-            if cell[0] in (1, 3, 4):
+            if cell[0] in (1, 3, 4, 5):
                 cell[3] = rng.randrange(nets)
             if cell[0] == 3 and rng.random() < 0.5:
                 cell[2] = rng.choice(controls)
-            if cell[0] in (1, 4) and rng.random() < 0.3:
-                cell[0] = 5 - cell[0]
-            if cell[0] in (1, 4) and controls and rng.random() < 0.3:
+            if cell[0] in (1, 4, 5) and rng.random() < 0.3:
+                cell[0] = rng.choice([1, 4, 5])
+            if cell[0] in (1, 4, 5) and controls and rng.random() < 0.3:
                 cell[0], cell[2] = 3, rng.choice(controls)
+            elif cell[0] == 3 and rng.random() < 0.3:
+                cell[0], cell[2] = 5, NONE
         return Damaged("structure", encode(cells, nets, limit), None)
     if what == 5:
         # one of the header's numbers changed a little
@@ -703,7 +810,7 @@ def damaged(rng, number=None, size=None):
         stages |= set(rng.sample(range(number, 12), rng.randint(1, min(4, 12 - number))))
 
     while True:
-        d = draft(rng, size)
+        d = some_draft(rng, size)
         bad = {}
         for stage, fault in ((11, fault_11), (10, fault_10), (9, fault_9), (8, fault_8), (7, fault_7)):
             if stage in stages:
@@ -857,11 +964,13 @@ def capture(rng, file, fault, noise=None):
 # --------------------------------------------------------------------------
 
 def groups_000(board):
-    """Source 000, figures 3 and 4, as printed ("For each cell" downward)."""
-    outputs = [q for q in range(len(board.cells) - 1, -1, -1) if board.cells[q].kind == 3]
+    """Source 000, figures 3 and 4, as printed ("For each cell" downward); an
+    open-drain cell is an output cell whose control cell stands at its own position."""
+    outputs = [(cell.net, cell.control if cell.kind == 3 else q)
+               for q, cell in enumerate(board.cells) if cell.kind in (3, 5)][::-1]
     array = [set() for _ in range(board.nets)]  # net vs control cell
-    for q in outputs:
-        array[board.cells[q].net].add(board.cells[q].control)
+    for net, c in outputs:
+        array[net].add(c)
     degree = [len(row) for row in array]
     output = []
     for group in range(1, max([1] + degree) + 1):
@@ -874,13 +983,11 @@ def groups_000(board):
                     net_done.add(net)
                     cell_done.update(array[net])
 
-        for q in outputs:
-            c, net = board.cells[q].control, board.cells[q].net
+        for net, c in outputs:
             if (degree[net] >= group and net not in net_done and c not in cell_done
                     and not any(c in earlier for earlier in output)):
                 activate(c)
-        for q in outputs:
-            c, net = board.cells[q].control, board.cells[q].net
+        for net, c in outputs:
             if net not in net_done and c not in cell_done:
                 activate(c)
         output.append(sorted(active))
@@ -896,7 +1003,7 @@ def check_structure(file):
     for on in groups:
         driven = [net for c in on for net in sets[c]]
         assert len(driven) == len(set(driven)), "a net driven twice"
-        wanted = {cell.net for cell in board.cells if cell.kind == 3}
+        wanted = {cell.net for cell in board.cells if cell.kind in (3, 5)}
         assert set(driven) == wanted, "a net not driven"
     assert groups == groups_000(board), "not the groups of source 000's pseudo code"
     used = {c for on in groups for c in on}

@@ -1,7 +1,7 @@
 """Verdict cases for a small test program.
 
-    python3 cases.py OUTDIR        about 60 cases
-    python3 cases.py OUTDIR all    some 30 more
+    python3 cases.py OUTDIR        about 90 cases
+    python3 cases.py OUTDIR all    some 40 more
 
 writes OUTDIR/stdin (each case: 2-byte little-endian length, then that many
 bytes of board file), OUTDIR/stdout (one line a case, "NUMBER PLACE") and
@@ -15,7 +15,8 @@ import random
 import sys
 
 import document01
-from boards import NONE, board_e, cells_e, encode, full, resealed, sealed, table3
+from boards import (NONE, all_open_drain, board_e, cells_e, encode, full, mixed_line, resealed,
+                    sealed, table3, two_lines)
 
 
 def X():
@@ -36,6 +37,10 @@ def T(control, net):
 
 def W(net):
     return (4, 0, NONE, net)
+
+
+def D(net):
+    return (5, 0, NONE, net)
 
 
 def e_with(changes, nets=3, limit=2, more=()):
@@ -74,22 +79,13 @@ def sets(*controls, filler=0):
     return encode(cells, 1 + max(max(s) for s in controls if s), 2), places
 
 
-def made(everything):
-    out = []
-
-    def case(name, file, number, place):
-        out.append((name, bytes(file), (number, place)))
-
-    def more(*parts):
-        if everything:
-            case(*parts)
-
+def document_01(case, more):
     e = board_e()
     case("board E", e, 0, 0)
     more("board E, SSOL 1,024", board_e(1024), 0, 0)
     case("E, position 7 on net 0", e_with({7: W(0)}), 7, 2)
     case("table 3", table3(), 0, 0)
-    big = full(random.Random(20))
+    big = full(random.Random(20), share=0)
     assert len(big) == 7168
     case("1,024 cells, 256 nets, degree 16", big, 0, 0)
     case("one cell", encode([W(0)], 1, 1), 0, 0)
@@ -152,7 +148,7 @@ def made(everything):
     case("rest of block 2 and a record of block 1", poke(three, {1024 + 507: 1, 516: 7}), 5, 2)
 
     # 6
-    case("kind 5 at the last position", e_with({10: (5, 0, NONE, 2)}), 6, 10)
+    case("kind 6 at the last position", e_with({10: (6, 0, NONE, 2)}), 6, 10)
     case("on value 2 of a control cell", e_with({3: (2, 2, NONE, NONE)}), 6, 3)
     case("on value 1 of a three-state output", e_with({6: (3, 1, 5, 1)}), 6, 6)
     more("three-state output without control", e_with({2: T(NONE, 1)}), 6, 2)
@@ -219,6 +215,97 @@ def made(everything):
          *(lambda f, p: (f, 11, p[2]))(*sets([4], [0], [0, 1], [2, 3], [3])))
     more("drivers 2 and 3 under one cell",
          *(lambda f, p: (f, 11, p[3]))(*sets([0], [0], [1], [1, 0], [2])))
+
+
+def open_drain_records(case, more):
+    """Request [3]: 6 knows the new kind."""
+    line = [D(0), C(), T(1, 0), D(0), I(0)]
+    broken = lambda *record: encode(line[:3] + [record] + line[4:], 1, 1)
+    case("two open-drain cells and a three-state output", mixed_line(), 0, 0)
+    case("open-drain cell with on value 1", broken(5, 1, NONE, 0), 6, 3)
+    case("open-drain cell with a control cell's position", broken(5, 0, 1, 0), 6, 3)
+    more("open-drain cell with its own position as control", broken(5, 0, 3, 0), 6, 3)
+    more("open-drain cell with control 65,534", broken(5, 0, 65534, 0), 6, 3)
+    case("open-drain cell without net", broken(5, 0, NONE, NONE), 6, 3)
+    case("open-drain cell on net N", broken(5, 0, NONE, 1), 6, 3)
+    case("three-state output whose control is an open-drain cell", broken(3, 0, 0, 0), 6, 3)
+    case("the same, with the open-drain cell above it",
+         encode([T(1, 0), D(0), I(0)], 1, 1), 6, 0)
+    case("control cell made open-drain without net: its output breaks first",
+         e_with({5: T(6, 1), 6: (5, 1, NONE, NONE)}), 6, 5)
+    more("control cell made open-drain: only its output breaks",
+         encode([T(1, 0), D(0), W(1)], 2, 1), 6, 0)
+    more("kind 6 in place of an open-drain cell", broken(6, 0, NONE, 0), 6, 3)
+
+
+def open_drain_outputs(case, more):
+    """Request [3]: 7 and 8 count it as an output, 9 as a controlled driver."""
+    case("a lone open-drain cell", encode([D(0)], 1, 1), 0, 0)
+    case("E, position 7 open-drain", e_with({7: D(2)}), 0, 0)
+    more("two open-drain lines", two_lines(), 0, 0)
+    case("open-drain nets 0 and 2, net 1 only with an input",
+         encode([D(0), I(1), D(2)], 3, 1), 7, 1)
+    case("two open-drain cells on one net", encode([D(0), D(0)], 1, 1), 0, 0)
+    case("two-state output, and an open-drain cell above it", e_with({10: D(2)}), 8, 2)
+    case("open-drain cell, and a two-state output above it",
+         encode([W(0), D(1), D(1), W(1)], 2, 1), 8, 1)
+    more("two-state output among 17 open-drain cells", encode([D(0)] * 17 + [W(0)], 1, 1), 8, 0)
+    case("two outputs of one control cell among open-drain cells",
+         encode([D(0), D(1), C(), T(2, 1), D(1), T(2, 1)], 2, 1), 8, 1)
+    both = []
+    for x in range(8):
+        both += [D(0), C(x % 2), T(3 * x + 1, 0)]
+    case("16 drivers of both kinds", encode(both, 1, 1), 0, 0)
+    case("17 drivers, nine of them open-drain", encode(both + [D(0)], 1, 1), 9, 0)
+    case("17 drivers, nine of them three-state", encode(both + [C(), T(24, 0)], 1, 1), 9, 0)
+    more("16 open-drain cells", encode([D(0)] * 16, 1, 1), 0, 0)
+    case("17 open-drain cells on net 2, 16 on net 1",
+         encode([D(0)] + [D(1), D(2)] * 16 + [D(2)], 3, 1), 9, 2)
+
+
+def open_drain_controls(case, more):
+    """Request [3]: 10 and 11 count it as a control cell, 11 as a controlled driver."""
+    crossing = [C(), T(1, 0), T(1, 1), C(0), T(4, 1), T(4, 2)]
+    case("sets {0, 1} and {1, 2}, an open-drain cell on net 1 below both",
+         encode([D(1)] + crossing, 3, 2), 10, 1)
+    case("the same, with open-drain cells on all nets below, between and above",
+         encode([D(0), C(), T(1, 0), T(1, 1), D(1), C(0), T(5, 1), T(5, 2), D(2)], 3, 2), 10, 1)
+    case("nested sets, with open-drain cells for the single nets",
+         encode([D(1), C(), T(1, 0), T(1, 1), T(1, 2), C(0), T(5, 0), T(5, 2), D(0), D(2), D(1)],
+                3, 2), 0, 0)
+    pair = [C(), T(1, 0), T(1, 1)]
+    case("set {0, 1}, an open-drain cell on net 0", encode([D(0)] + pair, 2, 1), 11, 1)
+    more("set {0, 1}, an open-drain cell on net 1 above it",
+         encode([X()] + pair + [D(1)], 2, 1), 11, 1)
+    case("set {0, 1}, an open-drain cell on each of the nets",
+         encode([D(0)] + pair + [D(1)], 2, 1), 0, 0)
+    case("set {0, 1}, an open-drain cell on net 0, a three-state output on net 1",
+         encode([D(0)] + pair + [C(0), T(4, 1)], 2, 1), 0, 0)
+    case("set {0, 1}, two open-drain cells on net 0, one on net 1",
+         encode([D(0)] + pair + [D(1), D(0)], 2, 1), 11, 1)
+    case("two uneven cells, the higher one with the lower open-drain cell",
+         encode([D(2), X(), C(), T(2, 0), T(2, 1), D(1), C(), T(6, 2), T(6, 3)], 4, 1), 11, 2)
+    for nets in (64, 256):
+        case("1,024 open-drain cells on %d nets" % nets, all_open_drain(nets), 0, 0)
+    # position 1,023 moves from net 63 to net 40, which then has 17
+    case("1,024 open-drain cells on 64 nets, the last on net 40",
+         poke(all_open_drain(64), {512 * 13 + 4 + 6 * 15 + 4: 40}), 9, 40)
+
+
+def made(everything):
+    out = []
+
+    def case(name, file, number, place):
+        out.append((name, bytes(file), (number, place)))
+
+    def more(*parts):
+        if everything:
+            case(*parts)
+
+    document_01(case, more)
+    open_drain_records(case, more)
+    open_drain_outputs(case, more)
+    open_drain_controls(case, more)
     return out
 
 

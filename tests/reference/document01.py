@@ -1,10 +1,11 @@
-"""Document 01 ("Exact scope and rules") as plain Python, for comparison.
+"""Document 01 ("Exact scope and rules") with request [3] of document 02
+(open-drain outputs) as plain Python, for comparison.
 
-Written from the document's sentences alone (and source 000, sections 2 to 5,
+Written from the documents' sentences alone (and source 000, sections 2 to 5,
 for the groups; docs/DECISIONS.md for the open points, its first list
-being cited below as "OP n").  Each function carries its sentence.  Nothing
-here is clever; what is slow stays slow, except that the list of vectors of
-one file is kept between calls.
+being cited below as "OP n").  Each function carries its sentence; those of
+request [3] stand behind "[3]".  Nothing here is clever; what is slow stays
+slow, except that the vectors and words of one file are kept between calls.
 
     python3 document01.py              self-check: the figures of document 01
     python3 document01.py listing <f   the listing program
@@ -16,7 +17,7 @@ from collections import namedtuple
 
 NONE = 65535  # "65,535 means none."  OP 3: "None" is exactly 65,535.
 
-INTERNAL, INPUT, CONTROL, THREE_STATE, TWO_STATE = 0, 1, 2, 3, 4
+INTERNAL, INPUT, CONTROL, THREE_STATE, TWO_STATE, OPEN_DRAIN = 0, 1, 2, 3, 4, 5
 
 Cell = namedtuple("Cell", "kind on control net")
 Board = namedtuple("Board", "cells nets limit")  # limit is SSOL
@@ -150,6 +151,7 @@ def record_holds(board, cell):
     # | 2    | control            | 0 or 1   | none                      | none    |
     # | 3    | three-state output | 0        | position of a kind 2 cell | below N |
     # | 4    | two-state output   | 0        | none                      | below N |
+    # [3] "New cell kind 5: control none, on value 0, net below N."
     # OP 3: the control position must be below C and its record's kind byte 2,
     # whatever else is wrong with that record.
     if cell.kind == INTERNAL:
@@ -165,11 +167,14 @@ def record_holds(board, cell):
                 and cell.net < board.nets)
     if cell.kind == TWO_STATE:
         return cell.on == 0 and cell.control == NONE and cell.net < board.nets
+    if cell.kind == OPEN_DRAIN:
+        return cell.on == 0 and cell.control == NONE and cell.net < board.nets
     return False
 
 
 def refusal_6(board):
     # 6: "a record breaks the table above", "lowest position"
+    # [3] "6 knows the new kind"
     for q, cell in enumerate(board.cells):
         if not record_holds(board, cell):
             return q
@@ -177,16 +182,36 @@ def refusal_6(board):
 
 
 def outputs_of(board):
-    """For each net, the positions of its kind 3 and kind 4 outputs."""
+    """For each net, the positions of its kind 3, 4 and 5 outputs."""
     found = [[] for _ in range(board.nets)]
     for q, cell in enumerate(board.cells):
-        if cell.kind in (THREE_STATE, TWO_STATE):
+        if cell.kind in (THREE_STATE, TWO_STATE, OPEN_DRAIN):
             found[cell.net].append(q)
     return found
 
 
+def control_of(board, q):
+    """The control cell of the controlled driver at q; None for other cells."""
+    # Kind 3: the record's control position.
+    # [3] "It counts as a control cell of its own"
+    if board.cells[q].kind == THREE_STATE:
+        return board.cells[q].control
+    if board.cells[q].kind == OPEN_DRAIN:
+        return q
+    return None
+
+
+def drivers_of(board):
+    """For each net, its number of controlled drivers."""
+    # OP 5: 9 counts kind 3 outputs.  [3] "9 and 11 [count it] as a controlled
+    # driver"
+    return [len([q for q in outputs if control_of(board, q) is not None])
+            for outputs in outputs_of(board)]
+
+
 def refusal_7(board):
     # 7: "a net has no kind 3 or 4 output", "lowest net"
+    # [3] "7 and 8 count it as an output"
     for net, outputs in enumerate(outputs_of(board)):
         if len(outputs) == 0:
             return net
@@ -197,11 +222,12 @@ def refusal_8(board):
     # 8: "a net has a kind 4 output and another output, or two outputs of one
     # control cell", "lowest net".  OP 4: two kind 4 outputs are "a kind 4
     # output and another"; "two outputs of one control cell" means on that net.
+    # [3] "7 and 8 count it as an output"; it is its own control cell's only one
     for net, outputs in enumerate(outputs_of(board)):
         cells = [board.cells[q] for q in outputs]
         if any(cell.kind == TWO_STATE for cell in cells) and len(cells) > 1:
             return net
-        controls = [cell.control for cell in cells if cell.kind == THREE_STATE]
+        controls = [control_of(board, q) for q in outputs if control_of(board, q) is not None]
         if len(set(controls)) != len(controls):
             return net
     return None
@@ -209,24 +235,27 @@ def refusal_8(board):
 
 def refusal_9(board):
     # 9: "a net has over 16 controlled drivers", "lowest net"
-    # OP 5: 9 counts kind 3 outputs.
-    for net, outputs in enumerate(outputs_of(board)):
-        if len([q for q in outputs if board.cells[q].kind == THREE_STATE]) > 16:
+    for net, drivers in enumerate(drivers_of(board)):
+        if drivers > 16:
             return net
     return None
 
 
 def control_cells(board):
-    """Positions of the kind 2 cells, ascending."""
-    return [q for q, cell in enumerate(board.cells) if cell.kind == CONTROL]
+    """Positions of the kind 2 and kind 5 cells, ascending."""
+    # [3] "10 and 11 [count it] as a control cell"
+    return [q for q, cell in enumerate(board.cells) if cell.kind in (CONTROL, OPEN_DRAIN)]
 
 
 def net_sets(board):
     # "A control cell's net set is the nets of its kind 3 outputs."
+    # [3] "It counts as a control cell of its own with that one net"
     sets = {q: set() for q in control_cells(board)}
-    for cell in board.cells:
+    for q, cell in enumerate(board.cells):
         if cell.kind == THREE_STATE:
             sets[cell.control].add(cell.net)
+        elif cell.kind == OPEN_DRAIN:
+            sets[q].add(cell.net)
     return sets
 
 
@@ -261,8 +290,7 @@ def degrees(board):
 def refusal_11(board):
     # 11: "a control cell's nets differ in number of controlled drivers",
     # "lowest such cell"
-    drivers = [len([q for q in outputs if board.cells[q].kind == THREE_STATE])
-               for outputs in outputs_of(board)]
+    drivers = drivers_of(board)
     sets = net_sets(board)
     for c in control_cells(board):
         if len({drivers[net] for net in sets[c]}) > 1:
@@ -329,6 +357,10 @@ def groups_of(board):
         # "every control cell that shares a net with it, itself included"
         return {c}.union(*(controls_of[net] for net in sets[c]))
 
+    # [3] "both passes stop at it": as at a kind 3 output, with the control
+    # cell that it is itself.
+    stops = [(board.cells[q].net, control_of(board, q)) for q in reversed(range(len(board.cells)))
+             if control_of(board, q) is not None]
     earlier = set()
     result = []
     # "For each group g from 1 to G nothing is marked at first."
@@ -339,20 +371,17 @@ def groups_of(board):
         # whose net has degree g or more, whose control cell is unmarked and
         # was on in no earlier group, turn that control cell on and mark every
         # control cell that shares a net with it, itself included."
-        for cell in reversed(board.cells):
-            if (cell.kind == THREE_STATE and degree[cell.net] >= g
-                    and cell.control not in marked
-                    and cell.control not in earlier):
-                on.add(cell.control)
-                marked |= sharing(cell.control)
+        for net, control in stops:
+            if degree[net] >= g and control not in marked and control not in earlier:
+                on.add(control)
+                marked |= sharing(control)
         # "Second pass, same order: at a kind 3 output whose net has degree
         # below g and whose control cell is unmarked, do the same; earlier
         # groups don't matter here."
-        for cell in reversed(board.cells):
-            if (cell.kind == THREE_STATE and degree[cell.net] < g
-                    and cell.control not in marked):
-                on.add(cell.control)
-                marked |= sharing(cell.control)
+        for net, control in stops:
+            if degree[net] < g and control not in marked:
+                on.add(control)
+                marked |= sharing(control)
         earlier |= on
         result.append(sorted(on))
     return result
@@ -449,13 +478,17 @@ def row_of(board, groups_, one):
     # "A vector's row, in the groups' bit order with spare bits 0: a control
     # cell has its on value when on, else the other; an output has its net's
     # value, on or not; inputs and internal cells 0."
-    on = groups_[one.group - 1]
+    # [3] "In its turn it is loaded with the net's value, otherwise with 1, and
+    # its group bit stands at its own position."
+    on = set(groups_[one.group - 1])
     bits = []
     for q, cell in enumerate(board.cells):
         if cell.kind == CONTROL:
             value = cell.on if q in on else 1 - cell.on
         elif cell.kind in (THREE_STATE, TWO_STATE):
             value = one.values[cell.net]
+        elif cell.kind == OPEN_DRAIN:
+            value = one.values[cell.net] if q in on else 1
         else:
             value = 0
         if value == 1:
@@ -467,8 +500,13 @@ def row_of(board, groups_, one):
 # Marks
 # --------------------------------------------------------------------------
 
-def mark_list(board, vectors, capture):
-    """The N marks; the capture has the right length."""
+def own_words(board, vectors):
+    # "A net's own word is its value in each vector."
+    return [bytes(one.values[net] for one in vectors) for net in range(board.nets)]
+
+
+def mark_list(board, words, capture):
+    """The N marks; words is own_words(..), and the capture has the right length."""
     # "The capture has a row per vector in the same bit order; only input
     # cells are looked at."
     size = row_bytes(board)
@@ -478,9 +516,7 @@ def mark_list(board, vectors, capture):
             column = capture[q // 8::size]
             readings.append((cell.net, bytes((x >> (q % 8)) & 1 for x in column)))
     marks_ = []
-    for net in range(board.nets):
-        # "A net's own word is its value in each vector."
-        word = bytes(one.values[net] for one in vectors)
+    for net, word in enumerate(words):
         own = [bits for other, bits in readings if other == net]
         if len(own) == 0:
             # 2: "the net has no input cell"
@@ -516,6 +552,10 @@ class Kept:
         made = vectors_of(self.board)
         assert len(made) == self.total
         return made
+
+    @functools.cached_property
+    def words(self):
+        return own_words(self.board, self.vectors)
 
     def row(self, number):
         return row_of(self.board, self.groups, self.vectors[number])
@@ -599,7 +639,7 @@ def marks(file, capture, buffer):
         return refused(15, 0), buffer
     # "N bytes are written; the numbers of pass, fail and unsure are returned
     # and are the numbers of those bytes."
-    data = bytes(mark_list(k.board, k.vectors, capture))
+    data = bytes(mark_list(k.board, k.words, capture))
     passed = data.count(0)
     failed = data.count(1)
     unsure = data.count(2) + data.count(3)
@@ -665,7 +705,7 @@ def unpacked(question, bits):
 # --------------------------------------------------------------------------
 
 def self_check():
-    from boards import board_e, cells_e, encode, table3, tied_capture
+    from boards import board_e, cells_e, encode, mixed_line, table3, tied_capture, two_lines
 
     done = []
 
@@ -693,23 +733,23 @@ def self_check():
          [2, 2, 3, 3, 4, 8, 9, 9])
     same("508 zero bytes", sums(bytes(508)), (1, 508))
 
-    def e_marks(file, tie, nets):
-        bits, out = marks(file, tied_capture(file, tie, nets), bytes(3))
+    def tied_marks(file, tie, nets):
+        bits, out = marks(file, tied_capture(file, tie, nets), bytes(read(file).nets))
         found = unpacked("marks", bits)
         same("counts of " + repr((tie, nets)), found,
              {"pass": out.count(0), "fail": out.count(1), "unsure": out.count(2) + out.count(3)})
         return list(out)
 
-    same("E 0 and 2 wired-AND", e_marks(e, "and", [0, 2]), [3, 0, 1])
-    same("E 0 and 1 wired-AND", e_marks(e, "and", [0, 1]), [1, 1, 0])
-    same("E 0 and 1 wired-OR", e_marks(e, "or", [0, 1]), [1, 1, 3])
-    same("E healthy", e_marks(e, "healthy", []), [0, 0, 0])
-    same("E SSOL 1 healthy", e_marks(one, "healthy", []), [0, 0, 0])
+    same("E 0 and 2 wired-AND", tied_marks(e, "and", [0, 2]), [3, 0, 1])
+    same("E 0 and 1 wired-AND", tied_marks(e, "and", [0, 1]), [1, 1, 0])
+    same("E 0 and 1 wired-OR", tied_marks(e, "or", [0, 1]), [1, 1, 3])
+    same("E healthy", tied_marks(e, "healthy", []), [0, 0, 0])
+    same("E SSOL 1 healthy", tied_marks(one, "healthy", []), [0, 0, 0])
 
     cells = cells_e()
     cells[9] = (0, 0, NONE, NONE)
     blind = encode(cells, 3, 2)
-    same("E position 9 internal", e_marks(blind, "healthy", []), [0, 2, 0])
+    same("E position 9 internal", tied_marks(blind, "healthy", []), [0, 2, 0])
 
     cells = cells_e()
     cells[7] = (4, 0, NONE, 0)
@@ -747,6 +787,20 @@ def self_check():
     # table 4's net vs control cell array
     same("table 4", [sorted(c for c, s in net_sets(read(t)).items() if n in s) for n in range(6)],
          [[0, 5, 22], [0, 5, 15], [0, 20, 26], [0, 17, 26], [12, 23], [12, 23]])
+
+    # [3] By hand: an open-drain cell out of its turn is 1 in every row.
+    mixed = mixed_line()
+    same("mixed line", board_verdict(mixed), (0, 0))
+    same("mixed line, groups", group_lists(mixed), [[3], [1], [0]])
+    same("mixed line, groups bytes", groups(mixed, bytes(3)), (3 << 8, b"\x08\x02\x01"))
+    same("mixed line, listing", listing(mixed),
+         b"vectors 6\n0 1 01\n1 1 0D\n2 2 0B\n3 2 0F\n4 3 08\n5 3 0D\n")
+    lines = two_lines()
+    same("two lines, groups", group_lists(lines), [[1, 2], [0, 2]])
+    same("two lines, listing", listing(lines),
+         b"vectors 7\n0 1 05\n1 1 07\n2 1 03\n3 1 01\n4 2 06\n5 2 07\n6 2 03\n")
+    same("two lines healthy", tied_marks(lines, "healthy", []), [0, 0])
+    same("two lines wired-AND", tied_marks(lines, "and", [0, 1]), [1, 1])
 
     same("total at the limit", total(128, 16, 2), 4096)
     same("total past the limit", total(183, 16, 3), 4098)

@@ -36,7 +36,8 @@ pub no-row :
     (kind ≡ 2 → ⊥) →
     (kind ≡ 3 → ⊥) →
     (kind ≡ 4 → ⊥) →
+    (kind ≡ 5 → ⊥) →
     Broken ≡ tableOf kind on control net switched connected
 unfolding tableOf
-no-row kind on control net switched connected n0 n1 n2 n3 n4 =
-    rw (ne-eqb kind 0 n0, ne-eqb kind 1 n1, ne-eqb kind 2 n2, ne-eqb kind 3 n3, ne-eqb kind 4 n4)
+no-row kind on control net switched connected n0 n1 n2 n3 n4 n5 =
+    rw (ne-eqb kind 0 n0, ne-eqb kind 1 n1, ne-eqb kind 2 n2, ne-eqb kind 3 n3, ne-eqb kind 4 n4, ne-eqb kind 5 n5)

@@ -3,10 +3,11 @@
 ghost use mathlib.Core.Path.{_≡_};
 ghost use Prim.Native.Nat.{_<_, _/_};
 ghost use mathlib.Core.List.{_∷_, []};
-ghost use Rattle.rules.specs.File.{recordAt, ofKind2, recordOf, brokenAt, boardOf, cellsOf, blockRecords, tableOf, netOf};
+ghost use Rattle.rules.specs.File.{recordAt, ofKind2, recordOf, brokenAt, boardOf, cellsOf, netsOf, blockRecords, tableOf, netOf};
 ghost use Rattle.rules.specs.Refusals.{judge, each, mostCells};
 ghost use Rattle.rules.specs.File as File;
 ghost use mathlib.Core.Bool.{_&&_};
+ghost use lib.Dec.{ltb};
 ghost use Rattle.rules.specs.Drivers.{driverAt};
 ghost use Rattle.cells.specs.Whole.{Shaped, Sized, Whole};
 use rules::BLOCK_RECORDS;
@@ -25,6 +26,9 @@ use rules::Verdict;
 const FIRST_RECORD: usize = BLOCK_SIZE + HEAD_SIZE;
 
 const SPARE_BYTES: usize = BLOCK_SIZE - RECORD_SIZE * BLOCK_RECORDS;
+
+// The lowest kind of cell that is an output.
+const FIRST_OUTPUT: u8 = 3;
 
 // NEAR_PART / NEAR_WHOLE, 49,933 / 4,194,304, is 1 / BLOCK_RECORDS and a little more.
 const NEAR_WHOLE: u32 = 4194304;
@@ -85,10 +89,26 @@ fn means(fits: bool, cell: Cell) -> Record
     Record::Broken
 }
 
-// The table of cell kinds: what a record with these columns means.
-fn table(kind: u8, on: u8, control: Position, net: Net, switched: bool, connected: bool) -> Record
-    ensures { λ r. ⌜ r ≡ tableOf kind on (control .0) (net .0) switched connected ⌝ }
+// "A record: cell kind (1 byte), on value (1), control position (2), net (2)".
+struct Fields {
+    kind: u8,
+    on: u8,
+    control: Position,
+    net: Net,
+}
+
+// The table of cell kinds: what a record with these fields means. Another record, the control cell's, is looked
+// at only where the kind asks for one.
+fn table(file: &[u8], cells: usize, nets: usize, fields: Fields) -> Record
+    requires { ⌜ Shaped (now file) ⌝ }
+    requires { ⌜ Sized (now file) cells nets ⌝ }
+    ensures { λ r. ⌜ r ≡ tableOf (fields .kind) (fields .on) (fields .control .0) (fields .net .0) (ofKind2 (now (file .entry)) (fields .control .0)) (ltb (fields .net .0) (netsOf (now (file .entry)))) ⌝ }
 {
+    let kind = fields.kind;
+    let on = fields.on;
+    let control = fields.control;
+    let net = fields.net;
+    let connected = (net.0 as usize) < nets;
     match kind {
         0 => means(
             columns(on == 0, control.0 == NONE, net.0 == NONE),
@@ -103,12 +123,16 @@ fn table(kind: u8, on: u8, control: Position, net: Net, switched: bool, connecte
             Cell::Control(on == 1),
         ),
         3 => means(
-            columns(on == 0, switched, connected),
+            columns(on == 0, of_kind_2(file, cells, control), connected),
             Cell::ThreeState(control, net),
         ),
         4 => means(
             columns(on == 0, control.0 == NONE, connected),
             Cell::TwoState(net),
+        ),
+        5 => means(
+            columns(on == 0, control.0 == NONE, connected),
+            Cell::OpenDrain(net),
         ),
         _ => Record::Broken,
     }
@@ -126,9 +150,17 @@ fn record_of(file: &[u8], cells: usize, nets: usize, p: Position) -> Record
     let on = file[at + 1];
     let control = Position(blocks::pair(file, at + 2));
     let net = Net(blocks::pair(file, at + 4));
-    let switched = of_kind_2(file, cells, control);
-    let connected = (net.0 as usize) < nets;
-    table(kind, on, control, net, switched, connected)
+    table(
+        file,
+        cells,
+        nets,
+        Fields {
+            kind,
+            on,
+            control,
+            net,
+        },
+    )
 }
 
 // Refusal 6: a record breaks the table, at the lowest position.
@@ -165,6 +197,7 @@ fn plain_record(file: &[u8], p: Position) -> Record
             Net(blocks::pair(file, at + 4)),
         )),
         4 => Record::Means(Cell::TwoState(Net(blocks::pair(file, at + 4)))),
+        5 => Record::Means(Cell::OpenDrain(Net(blocks::pair(file, at + 4)))),
         _ => Record::Broken,
     }
 }
@@ -190,17 +223,22 @@ pub fn net_at(file: &[u8], p: Position) -> Net
 }
 
 // What the cell at position p of a whole file drives: the one place that knows which kinds of cells are
-// drivers, and of which control cell.
+// drivers, and of which control cell. Every walk along drivers asks it, so it reads the record's bytes itself,
+// and tells first the kinds that are no outputs, since most cells are of these.
 pub fn driver_at(file: &[u8], p: Position) -> Driver
     requires { ⌜ Whole (now file) (p .0) ⌝ }
     ensures { λ r. ⌜ r ≡ driverAt (boardOf (now (file .entry))) (p .0) ⌝ }
 {
-    let cell = cell_at(file, p);
-    match cell {
-        Cell::Internal => Driver::Nothing,
-        Cell::Input(_) => Driver::Nothing,
-        Cell::Control(_) => Driver::Nothing,
-        Cell::ThreeState(k, n) => Driver::Of(k, n),
-        Cell::TwoState(_) => Driver::Nothing,
+    let at = record_start(p);
+    let kind = file[at];
+    let control = Position(blocks::pair(file, at + 2));
+    let net = Net(blocks::pair(file, at + 4));
+    if kind < FIRST_OUTPUT {
+        return Driver::Nothing;
+    }
+    match kind {
+        3 => Driver::Of(control, net),
+        5 => Driver::Of(p, net),
+        _ => Driver::Nothing,
     }
 }

@@ -133,6 +133,7 @@ pub(crate) fn net_key(file: &[u8], c: Position) -> Key
         Cell::Control(_) => Key::Nothing,
         Cell::ThreeState(_, n) => Key::Of(n.0 as usize),
         Cell::TwoState(n) => Key::Of(n.0 as usize),
+        Cell::OpenDrain(n) => Key::Of(n.0 as usize),
     }
 }
 

@@ -11,7 +11,7 @@ use Rattle.rules.specs.Drivers.{isInput, onNet}
 use Rattle.rules.specs.Marks.{inputOf}
 use Rattle.rules.specs.Refusals.{judge, fileChecks}
 use Rattle.rules.specs.declared.Cell.{Cell}
-use Rattle.rules.specs.declared.Cell.the-variants.{Internal, Input, Control, ThreeState, TwoState}
+use Rattle.rules.specs.declared.Cell.the-variants.{Internal, Input, Control, ThreeState, TwoState, OpenDrain}
 use Rattle.rules.specs.declared.Net.{Net}
 use Rattle.rules.specs.declared.Verdict.the-variants.{Accepted}
 use Rattle.rules.proofs.RecordLaws.{SaysAt, record-says}
@@ -36,6 +36,7 @@ reads-of (Input m) n e = let p : m ≡ n = cc in record { kind = refl; net = ap 
 reads-of (Control on) n e = absurd (never n e)
 reads-of (ThreeState k m) n e = absurd (never n e)
 reads-of (TwoState m) n e = absurd (never n e)
+reads-of (OpenDrain m) n e = absurd (never n e)
 
 reads-none : (cell : Cell) → readerIn cell ≡ Nothing → eqb (kindOf cell) 1 ≡ false
 unfolding readerIn kindOf
@@ -44,6 +45,7 @@ reads-none (Input m) e = absurd (never m (sym e))
 reads-none (Control on) e = refl
 reads-none (ThreeState k m) e = refl
 reads-none (TwoState m) e = refl
+reads-none (OpenDrain m) e = refl
 
 -- the input cell found is the cell's
 pub reader-is : (cell cell′ : Cell) (found reader : Reader) → cell ≡ cell′ → found ≡ readerIn cell → found ≡ reader → readerIn cell′ ≡ reader

@@ -13,7 +13,7 @@ use Rattle.rules.specs.Marks.{inputOf, unseen, firstGiven, byteOf, bytesThat, i
 use Rattle.rules.specs.Refusals.{mostNets, judge, fileChecks}
 use Rattle.rules.specs.Answers.{over}
 use Rattle.rules.specs.declared.Cell.{Cell}
-use Rattle.rules.specs.declared.Cell.the-variants.{Internal, Input, Control, ThreeState, TwoState}
+use Rattle.rules.specs.declared.Cell.the-variants.{Internal, Input, Control, ThreeState, TwoState, OpenDrain}
 use Rattle.rules.specs.declared.Mark.{Mark}
 use Rattle.rules.specs.declared.Mark.the-variants.{Fail, NotSeen, ReadTwice}
 use Rattle.rules.specs.declared.Verdict.the-variants.{Accepted}
@@ -73,6 +73,7 @@ readerIn (Input n) = Of n
 readerIn (Control on) = Nothing
 readerIn (ThreeState k n) = Nothing
 readerIn (TwoState n) = Nothing
+readerIn (OpenDrain n) = Nothing
 
 -- a set of nets with the net besides whose own word was read
 abbrev pub plusRead : (ℕ → Bool) → ℕ → ℕ → Bool

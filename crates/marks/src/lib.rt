@@ -48,6 +48,7 @@ fn reader_of(cell: Cell) -> Reader
         Cell::Control(_) => Reader::Nothing,
         Cell::ThreeState(_, _) => Reader::Nothing,
         Cell::TwoState(_) => Reader::Nothing,
+        Cell::OpenDrain(_) => Reader::Nothing,
     }
 }
 

@@ -13,7 +13,7 @@ use Rattle.rules.specs.Groups.{onIn}
 use Rattle.rules.specs.Refusals.{judge, fileChecks}
 use Rattle.rules.specs.Vectors.{Vector, cellBit, vectorRow}
 use Rattle.rules.specs.declared.Cell.{Cell}
-use Rattle.rules.specs.declared.Cell.the-variants.{Internal, Input, Control, ThreeState, TwoState}
+use Rattle.rules.specs.declared.Cell.the-variants.{Internal, Input, Control, ThreeState, TwoState, OpenDrain}
 use Rattle.rules.specs.declared.Verdict.the-variants.{Accepted}
 use Rattle.rules.proofs.DriverLaws.{output-is, kept-net}
 use Rattle.rules.proofs.Shape.{laid, shaped, whole-records}
@@ -41,6 +41,7 @@ module _ (file : List ℕ) (ok : judge (fileChecks file) ≡ Accepted) (c : ℕ)
       go (Control on) e = omega arith
       go (ThreeState k n) e = let h = below (output-is _ c _ e) in rw e at h
       go (TwoState n) e = let h = below (output-is _ c _ e) in rw e at h
+      go (OpenDrain n) e = let h = below (output-is _ c _ e) in rw e at h
 
 -- the definition's bit
 bit-is : (b : Board) (v : Vector) (c : ℕ) (cell : Cell) → bitOf (onIn b (v .group) c) (v .value) cell ≡ cellBit b v c cell
@@ -50,6 +51,7 @@ bit-is b v c (Input n) = refl
 bit-is b v c (Control on) = refl
 bit-is b v c (ThreeState k n) = refl
 bit-is b v c (TwoState n) = refl
+bit-is b v c (OpenDrain n) = refl
 
 -- the cells below C whose bit is 1 make the vector's row
 row-is :

@@ -1,6 +1,6 @@
 // The row of a vector: each cell's bit by its kind, its group's control cells and its net's value.
 ghost use mathlib.Core.Path.{_≡_};
-ghost use mathlib.Core.Bool.{cond, not};
+ghost use mathlib.Core.Bool.{true, cond, not};
 ghost use Prim.Native.Nat.{_<_, _*_};
 ghost use Rattle.rules.specs.File.{boardOf, cellsOf};
 ghost use Rattle.rules.specs.Answers.{over};
@@ -38,6 +38,16 @@ fn control_bit(lit: bool, on: bool) -> bool
     !on
 }
 
+// An open-drain output "in its turn .. is loaded with the net's value, otherwise with 1".
+fn drain_bit(turn: bool, value: bool) -> bool
+    ensures { λ r. ⌜ r ≡ cond turn value true ⌝ }
+{
+    if turn {
+        return value;
+    }
+    true
+}
+
 // The bit of the cell at p, where these control cells are on and these nets have value 1.
 fn cell_bit(cell: Cell, p: Position, on: CellSet, nets: NetSet) -> bool
     requires { ⌜ (p .0 < 64 * cellWords) × (outNet cell < 64 * netWords) ⌝ }
@@ -49,6 +59,7 @@ fn cell_bit(cell: Cell, p: Position, on: CellSet, nets: NetSet) -> bool
         Cell::Control(value) => control_bit(on.has(p), value),
         Cell::ThreeState(_, n) => nets.has(n),
         Cell::TwoState(n) => nets.has(n),
+        Cell::OpenDrain(n) => drain_bit(on.has(p), nets.has(n)),
     }
 }
 

@@ -10,11 +10,11 @@ use lib.Dec.{leb}
 use Rattle.base.specs.Tests.{any}
 use Rattle.base.proofs.BoolLaws.{left, right, passes-not}
 use Rattle.base.proofs.TestLaws.{any-none}
-use Rattle.rules.specs.File.{Board, boardOf, netOf, cellsOf, netsOf, limitOf}
+use Rattle.rules.specs.File.{Board, boardOf, kindOf, netOf, cellsOf, netsOf, limitOf}
 use Rattle.rules.specs.Drivers.{controlled, controlFor, isControl, alwaysOn, outputOf, drivers}
 use Rattle.rules.specs.Refusals.{judge, mostDrivers, mostCells, mostNets, mostLimit, within, outside, undriven, clash, clashing, crowded, shapeChecks, fileChecks, netChecks, earlyChecks}
 use Rattle.rules.specs.declared.Verdict.the-variants.{Accepted}
-use Rattle.rules.proofs.DriverLaws.{kept-control, kept-net}
+use Rattle.rules.proofs.DriverLaws.{kept-three, kept-control, kept-net}
 use Rattle.rules.proofs.Verdicts.{all-pass}
 
 -- what checks 1 to 9 leave
@@ -23,6 +23,8 @@ pub record Early (b : Board) : Type 0 where
   pub has-limit : 0 < b .limit
   -- a controlled driver's control cell is one, on the board
   pub own-control : (c : ℕ) → c < b .size → controlled b c ≡ true → (controlFor b c < b .size) × (isControl b (controlFor b c) ≡ true)
+  -- a three-state output's is of kind 2
+  pub named-control : (c : ℕ) → c < b .size → kindOf (b .cell c) ≡ 3 → kindOf (b .cell (controlFor b c)) ≡ 2
   -- an output's net is one of the board
   pub own-net : (c : ℕ) → c < b .size → (controlled b c || alwaysOn b c) ≡ true → netOf (b .cell c) < b .nets
   -- each net has an output
@@ -49,6 +51,7 @@ early file e =
     record {
       has-limit = limit-within mostLimit (limitOf file) limit .0;
       own-control = kept-control file whole;
+      named-control = λ c l e. kept-three file whole c l e .1;
       own-net = kept-net file whole;
       driven = λ n l. passes-not _ (nets .0 n l);
       no-clash = λ n c d l m k. any-none _ _ (any-none _ _ (nets .1 .0 n l) m) k;

@@ -1,5 +1,5 @@
--- Theorem 4: once check 8 has passed, the number of control cells of a net is the number of its kind 3 outputs. The idea: each output has one
--- control cell, and no control cell two outputs on the net.
+-- Theorem 4: once check 8 has passed, the number of control cells of a net is the number of its controlled drivers, of kinds 3 and 5. The idea: each
+-- such output has one control cell, and no control cell two outputs on the net.
 use Prim.Native.Nat.{ℕ, _<_}
 use mathlib.Core.Path.{_≡_, sym, _∙_}
 use mathlib.Core.Bool.{true}

@@ -1,4 +1,4 @@
--- Document 01's figures marked P, as one table with one claim, which antt computes. Board E is a file's bytes.
+-- Document 01's figures marked P, and one of request [3], as one table with one claim, which antt computes. Boards E and D are files' bytes.
 use Prim.Native.Nat.{ℕ, zero, suc, _-_, _/_, _%_}
 use mathlib.Core.Path.{_≡_, refl}
 use mathlib.Core.Bool.{Bool, true, false, cond, xor, _&&_}
@@ -17,10 +17,11 @@ use Rattle.rules.specs.File.{ofKind2, tableOf, recordOf, brokenAt, kindO
 use Rattle.rules.specs.declared.Sums.{Sums}
 use Rattle.rules.specs.declared.Cell.{Cell}
 use Rattle.rules.specs.declared.Cell.the-variants.{Internal, Control, ThreeState}
-use Rattle.rules.specs.Drivers.{driverIn, driverAt, isDriver, controlIn, controlled, controlFor, isControl, alwaysOn, isInput}
+use Rattle.rules.specs.Drivers.{driverIn, driverAt, isDriver, controlIn, controlled, controlFor, openDrain, isControl, alwaysOn, isInput}
 use Rattle.rules.specs.Drivers.{onNet, outputOf, driverOf, drives, drivers, controls, degree, meets, inside, crosses, groupsOf}
 use Rattle.rules.specs.Groups.{marked, turn, pass, firstPass, secondPass, selected, earlier, group, onIn}
 use Rattle.rules.specs.Vectors.{codeWidth, codeBit, widthOf, patternOf, basesOf, differs, changes, insertedAfter, between, stepsOf, vectorOf, planOf, totalOf, vectorAt, cellBit, vectorRow}
+use Rattle.rules.specs.Lines.{switchedOn, actsAs, acts, level}
 use Rattle.rules.specs.Marks.{readAt, ownAt, differsAt, inputOf, unseen, failed, readTwice, rowsOf, firstGiven, markOf, byteOf, marksOf}
 use Rattle.rules.specs.Refusals.{judge, numberOf, placeOf, wrongLength, within, outside, blocksFor, blockWrong}
 use Rattle.rules.specs.Refusals.{undriven, clash, clashing, crowded, crossed, unequal}
@@ -66,6 +67,21 @@ members (suc n) f = members n f ++ cond (f n) (n ∷ []) []
 boardE : Board
 boardE = boardOf (fileE 2)
 
+-- board D, one net: control cell 0 switches the three-state output 1; 2 and 3 are open-drain outputs, 4 is an input
+fileD : List ℕ
+fileD =
+    block (two 0 ++ (1 ∷ 0 ∷ 66 ∷ 83 ∷ 73 ∷ 78 ∷ 1 ∷ 0 ∷ []) ++ two 5 ++ two 1 ++ two 1) ++
+    block
+    (two 1 ++ (2 ∷ 5 ∷ []) ++
+    record4 2 1 none none ++
+    record4 3 0 0 0 ++
+    record4 5 0 none 0 ++
+    record4 5 0 none 0 ++
+    record4 1 0 none 0)
+
+boardD : Board
+boardD = boardOf fileD
+
 abbrev switched : ℕ → ℕ → Cell
 switched control net = ThreeState (record { 0 = control }) (record { 0 = net })
 
@@ -96,13 +112,17 @@ digits n f = table n (λ m. cond (f m) 1 0)
 verdictOn : List ℕ → List ℕ
 verdictOn file = numberOf (judge (boardChecks file)) ∷ placeOf (judge (boardChecks file)) ∷ []
 
--- each of the first n vectors of board E: its group and its row
-listing : ℕ → List ℕ
-listing zero = []
-listing (suc n) = listing n ++ (vectorAt boardE n .group ∷ vectorRow boardE (vectorAt boardE n))
+-- each of the first n vectors of a board: its group and its row
+listing : Board → ℕ → List ℕ
+listing b zero = []
+listing b (suc n) = listing b n ++ (vectorAt b n .group ∷ vectorRow b (vectorAt b n))
 
 zeroSums : Sums
 zeroSums = sumsOf (replicate 508 0)
+
+-- the level of board D's line, with this row in the chain
+levelD : ℕ → ℕ
+levelD row = cond (level boardD (row ∷ []) 0) 1 0
 
 figures : List Figure
 figures =
@@ -131,7 +151,17 @@ figures =
     -- and E's listing: for each vector its group and its row
     figure
     (1 ∷ 0x20 ∷ 0x00 ∷ 1 ∷ 0xE4 ∷ 0x00 ∷ 1 ∷ 0xB2 ∷ 0x00 ∷ 2 ∷ 0x09 ∷ 0x00 ∷ 2 ∷ 0xCD ∷ 0x00 ∷ 2 ∷ 0x9B ∷ 0x00 ∷ [])
-    (listing (totalOf boardE)) ∷
+    (listing boardE (totalOf boardE)) ∷
+    -- D is accepted; its groups are {3}, {2} and {0}; and an open-drain output off its turn is loaded with 1
+    figure (0 ∷ 0 ∷ []) (verdictOn fileD) ∷
+    figure (3 ∷ []) (members 5 (onIn boardD 1)) ∷
+    figure (2 ∷ []) (members 5 (onIn boardD 2)) ∷
+    figure (0 ∷ []) (members 5 (onIn boardD 3)) ∷
+    figure
+    (1 ∷ 0x04 ∷ 1 ∷ 0x0E ∷ 2 ∷ 0x08 ∷ 2 ∷ 0x0E ∷ 3 ∷ 0x0D ∷ 3 ∷ 0x0F ∷ [])
+    (listing boardD (totalOf boardD)) ∷
+    -- its line is low in each group's first vector and high in the second; it is low too where a cell pulls out of its turn
+    figure (0 ∷ 1 ∷ 0 ∷ 1 ∷ 0 ∷ 1 ∷ 0 ∷ []) (map levelD (0x04 ∷ 0x0E ∷ 0x08 ∷ 0x0E ∷ 0x0D ∷ 0x0F ∷ 0x0B ∷ [])) ∷
     []
 
 same : List ℕ → List ℕ → Bool
@@ -147,16 +177,16 @@ right (f ∷ fs) = same (f .said) (f .computed) && right fs
 
 claim : right figures ≡ true
 unfolding
-    right same listing lopsided boardL figures figure capture digits verdictOn zeroSums members boardE fileE block record4 two
+    right same listing levelD lopsided boardL boardD fileD figures figure capture digits verdictOn zeroSums members boardE fileE block record4 two
     any all largest seek least count among table has ceil bit word weave xor
     byteAt numberAt added sumsFrom sumsOf blocksIn blockAt sumsRight zeros headRight headerRight
     cellsOf netsOf limitOf recordsIn cellBlockRight recordAt kindAt onAt controlAt netAt
     ofKind2 tableOf recordOf brokenAt kindOf onValueOf controlOf netOf boardOf
-    driverIn driverAt isDriver controlIn controlled controlFor isControl alwaysOn isInput
+    driverIn driverAt isDriver controlIn controlled controlFor openDrain isControl alwaysOn isInput
     onNet outputOf driverOf drives drivers controls degree meets inside crosses groupsOf
     marked turn pass firstPass secondPass selected earlier group onIn
     codeWidth codeBit widthOf patternOf basesOf differs changes insertedAfter between stepsOf vectorOf
-    planOf totalOf vectorAt cellBit vectorRow rowBytes rowByte rowOf rowBit
+    planOf totalOf vectorAt cellBit vectorRow switchedOn actsAs acts level rowBytes rowByte rowOf rowBit
     readAt ownAt differsAt inputOf unseen failed readTwice rowsOf firstGiven markOf byteOf marksOf
     judge numberOf placeOf wrongLength within outside blocksFor blockWrong
     undriven clash clashing crowded crossed unequal

@@ -26,7 +26,7 @@ use Rattle.rules.proofs.Degree.{degree-drivers}
 use Rattle.rules.proofs.Cover.{Covered}
 use Rattle.rules.proofs.Selection.{Sound, sound, selected-cell, selected-apart, unused, used, uses, covered}
 
--- an output of net n is on: always, or because its control cell is
+-- an output of net n is on: always, or because its control cell is; an open-drain output is on where it has the turn
 abbrev pub live : Board → (ℕ → Bool) → ℕ → ℕ → Bool
 live b on n c = outputOf b n c && (alwaysOn b c || on (controlFor b c))
 

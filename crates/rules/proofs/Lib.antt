@@ -15,6 +15,8 @@ pub mod Cover
 pub mod Selection
 pub mod GroupsDriven
 pub mod VectorsDriven
+pub mod LinesDriven
+pub mod OpenDrains
 pub mod Requirement
 pub mod Outcomes
 pub mod Figures

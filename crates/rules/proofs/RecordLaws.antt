@@ -1,5 +1,5 @@
 -- The table of cell kinds: a record that is not broken means the cell that holds its very bytes, and its columns are as the table has
--- them. The idea: the table's six rows are six cases of one choice, over plain numbers.
+-- them. The idea: the table's seven rows are seven cases of one choice, over plain numbers.
 use Prim.Native.Nat.{ℕ, _<_, _≤_}
 use mathlib.Core.Path.{_≡_, refl, sym, subst}
 use mathlib.Core.Logic.{⊎-elim}
@@ -11,16 +11,16 @@ use lib.Dec.{eqb, ltb}
 use Rattle.base.proofs.BoolLaws.{left, right, clashes, order}
 use Rattle.rules.specs.File.{byKind, means, none, kindOf, onValueOf, controlOf, netOf, kindAt, onAt, controlAt, netAt, netsOf, ofKind2, tableOf, recordOf, cellOf, isBroken}
 use Rattle.rules.specs.declared.Cell.{Cell}
-use Rattle.rules.specs.declared.Cell.the-variants.{Internal, Input, Control, ThreeState, TwoState}
+use Rattle.rules.specs.declared.Cell.the-variants.{Internal, Input, Control, ThreeState, TwoState, OpenDrain}
 use Rattle.rules.specs.declared.Record.{Record}
 use Rattle.rules.specs.declared.Record.the-variants.{Means, Broken}
 
 -- the kinds whose record is to have a control, and those whose record is to have a net
 abbrev pub switches : ℕ → Bool
-switches kind = byKind kind false false false true false false
+switches kind = byKind kind false false false true false false false
 
 abbrev pub connects : ℕ → Bool
-connects kind = byKind kind false true false true true false
+connects kind = byKind kind false true false true true true false
 
 -- the cell has the record's four columns, and they are as the table allows: where a control is due it is one, and so is a net
 pub record Says (kind on control net : ℕ) (switched connected : Bool) (cell : Cell) : Type 0 where
@@ -49,20 +49,22 @@ choice P true x y f g = f refl
 choice P false x y f g = g
 
 by-kind :
-    (P : Record → Type 0) (kind : ℕ) (r0 r1 r2 r3 r4 other : Record) →
+    (P : Record → Type 0) (kind : ℕ) (r0 r1 r2 r3 r4 r5 other : Record) →
     (kind ≡ 0 → P r0) →
     (kind ≡ 1 → P r1) →
     (kind ≡ 2 → P r2) →
     (kind ≡ 3 → P r3) →
     (kind ≡ 4 → P r4) →
+    (kind ≡ 5 → P r5) →
     P other →
-    P (byKind kind r0 r1 r2 r3 r4 other)
-by-kind P kind r0 r1 r2 r3 r4 other f0 f1 f2 f3 f4 g =
+    P (byKind kind r0 r1 r2 r3 r4 r5 other)
+by-kind P kind r0 r1 r2 r3 r4 r5 other f0 f1 f2 f3 f4 f5 g =
     choice P (eqb kind 0) _ _ (λ e. f0 (eqb-true kind 0 e))
     (choice P (eqb kind 1) _ _ (λ e. f1 (eqb-true kind 1 e))
     (choice P (eqb kind 2) _ _ (λ e. f2 (eqb-true kind 2 e))
     (choice P (eqb kind 3) _ _ (λ e. f3 (eqb-true kind 3 e))
-    (choice P (eqb kind 4) _ _ (λ e. f4 (eqb-true kind 4 e)) g))))
+    (choice P (eqb kind 4) _ _ (λ e. f4 (eqb-true kind 4 e))
+    (choice P (eqb kind 5) _ _ (λ e. f5 (eqb-true kind 5 e)) g)))))
 
 module _ (kind on control net : ℕ) (switched connected : Bool) (cell : Cell) where
   -- one row: the record says the row's cell where the row's three tests pass, so what the row means is said
@@ -94,7 +96,7 @@ module _ (kind on control net : ℕ) (switched connected : Bool) (cell : Cell) w
   pub table-says : tableOf kind on control net switched connected ≡ Means cell → Says kind on control net switched connected cell
   unfolding tableOf kindOf onValueOf controlOf netOf
   table-says =
-      by-kind (λ (r : Record). r ≡ Means cell → Says kind on control net switched connected cell) kind _ _ _ _ _ _
+      by-kind (λ (r : Record). r ≡ Means cell → Says kind on control net switched connected cell) kind _ _ _ _ _ _ _
       (λ k. row (eqb on 0) (eqb control none) (eqb net none) Internal
       (λ o c n. columns _ (sym k) (is on 0 o) (is control none c) (is net none n) (undue switches k refl) (undue connects k refl)))
       (λ k. row (eqb on 0) (eqb control none) connected (Input (record { 0 = net }))
@@ -104,6 +106,8 @@ module _ (kind on control net : ℕ) (switched connected : Bool) (cell : Cell) w
       (λ k. row (eqb on 0) switched connected (ThreeState (record { 0 = control }) (record { 0 = net }))
       (λ o c n. columns _ (sym k) (is on 0 o) refl refl (λ h. c) (λ h. n)))
       (λ k. row (eqb on 0) (eqb control none) connected (TwoState (record { 0 = net }))
+      (λ o c n. columns _ (sym k) (is on 0 o) (is control none c) refl (undue switches k refl) (λ h. n)))
+      (λ k. row (eqb on 0) (eqb control none) connected (OpenDrain (record { 0 = net }))
       (λ o c n. columns _ (sym k) (is on 0 o) (is control none c) refl (undue switches k refl) (λ h. n)))
       (λ e. let z : _≡_ {A = ℕ} 0 1 = cc in absurd (omega arith))
 
@@ -130,6 +134,7 @@ plainRecord kind on control net =
     (Means (Control (eqb on 1)))
     (Means (ThreeState (record { 0 = control }) (record { 0 = net })))
     (Means (TwoState (record { 0 = net })))
+    (Means (OpenDrain (record { 0 = net })))
     Broken
 
 kept : (fits : Bool) (cell : Cell) → isBroken (means fits cell) ≡ false → means fits cell ≡ Means cell
@@ -156,7 +161,8 @@ plain-table kind on control net switched connected =
     (choose (eqb kind 1) _ _ _ _ (kept (eqb on 0 && eqb control none && connected) _)
     (choose (eqb kind 2) _ _ _ _ (kept (ltb on 2 && eqb control none && eqb net none) _)
     (choose (eqb kind 3) _ _ _ _ (kept (eqb on 0 && switched && connected) _)
-    (choose (eqb kind 4) _ _ _ _ (kept (eqb on 0 && eqb control none && connected) _) (λ h. absurd (false≢true (sym h)))))))
+    (choose (eqb kind 4) _ _ _ _ (kept (eqb on 0 && eqb control none && connected) _)
+    (choose (eqb kind 5) _ _ _ _ (kept (eqb on 0 && eqb control none && connected) _) (λ h. absurd (false≢true (sym h))))))))
 
 pub plain-record :
     (file : List ℕ) (p : ℕ) →

@@ -1,7 +1,9 @@
--- Theorem 5, demand 3 on vectors, read off the rows' bits: a control cell is on where its bit is its on value. The idea: that is the case
--- exactly where the vector's group turns it on, and every vector, inserted ones too, belongs to one of groups 1 to G.
+-- Theorem 5, demand 3 on vectors, read off the rows' bits: a control cell of kind 2 is on where its bit is its on value, an open-drain output
+-- where the row of the vector's group has its bit. The idea: that is the case exactly where the vector's group turns it on, and every vector,
+-- inserted ones too, belongs to one of groups 1 to G.
 use Prim.Native.Nat.{ℕ, zero, suc, _+_, _*_, _/_, _^_, _<_, _≤_}
 use mathlib.Core.Path.{_≡_, refl, _∙_, ap}
+use mathlib.Core.Logic.{⊎-elim}
 use mathlib.Core.Bool.{Bool, true, false, cond, not, _&&_, _||_}
 use mathlib.Core.List.{List}
 use native.Mathlib.Nat.{mul-zero, div-lt-iff-lt-mul, mul-div-cancel, mul-lt-mul-of-pos-right}
@@ -11,16 +13,18 @@ use lib.ListN.{length}
 use Rattle.base.specs.Tests.{digit}
 use Rattle.base.specs.Counting.{count}
 use Rattle.base.specs.Weave.{weave}
+use Rattle.base.proofs.BoolLaws.{clashes}
 use Rattle.base.proofs.CountingLaws.{count-same}
 use Rattle.base.proofs.ListLaws.{length-table, table-at}
 use Rattle.base.proofs.WeaveLaws.{weave-each, weave-at-base, weave-fits}
 use Rattle.rules.specs.File.{Board, boardOf, kindOf, onValueOf}
-use Rattle.rules.specs.Drivers.{controlled, controlFor, alwaysOn, onNet, outputOf, drives, groupsOf}
-use Rattle.rules.specs.Groups.{onIn}
+use Rattle.rules.specs.Drivers.{controlled, controlFor, openDrain, alwaysOn, onNet, outputOf, drives, groupsOf}
+use Rattle.rules.specs.Groups.{onIn, groupRow}
 use Rattle.rules.specs.Vectors.{Vector, basesOf, widthOf, between, insertedAfter, stepsOf, vectorOf, planOf, totalOf, vectorAt, cellBit, vectorRow}
+use Rattle.rules.specs.Lines.{loaded, switchedOn}
 use Rattle.rules.specs.Refusals.{judge, boardChecks}
 use Rattle.rules.specs.declared.Cell.{Cell}
-use Rattle.rules.specs.declared.Cell.the-variants.{Internal, Input, Control, ThreeState, TwoState}
+use Rattle.rules.specs.declared.Cell.the-variants.{Internal, Input, Control, ThreeState, TwoState, OpenDrain}
 use Rattle.rules.specs.declared.Step.the-variants.{Base, Inserted}
 use Rattle.rules.specs.declared.Verdict.the-variants.{Accepted}
 use Rattle.rules.specs.Rows.{rowBit}
@@ -31,9 +35,10 @@ use Rattle.rules.proofs.Requirement.{ControlCell}
 use Rattle.rules.proofs.Selection.{Sound, sound}
 use Rattle.rules.proofs.GroupsDriven.{live, group-drives-once, idle-off}
 
--- a control cell is on in a row: its bit is its on value
-abbrev pub rowOn : Board → List ℕ → ℕ → Bool
-rowOn b row k = eqb (digit (rowBit row 0 k)) (onValueOf (b .cell k))
+-- what a vector's cells are loaded with: the bits of its row
+pub loaded-is : (b : Board) (v : Vector) (c : ℕ) → c < b .size → loaded (vectorRow b v) c ≡ cellBit b v c (b .cell c)
+unfolding vectorRow
+loaded-is b v c l = row-bit (b .size) (λ c. cellBit b v c (b .cell c)) c l
 
 -- a cell of kind 2 is a control cell with its on value
 control-bit : (b : Board) (v : Vector) (k : ℕ) (cell : Cell) → kindOf cell ≡ 2 → eqb (digit (cellBit b v k cell)) (onValueOf cell) ≡ onIn b (v .group) k
@@ -49,25 +54,40 @@ control-bit b v k (Control on) e = go on (onIn b (v .group) k)
     go false false = refl
 control-bit b v k (ThreeState c n) e = absurd (omega arith)
 control-bit b v k (TwoState n) e = absurd (omega arith)
+control-bit b v k (OpenDrain n) e = absurd (omega arith)
 
 -- that is the case exactly where the vector's group turns it on
-pub row-on : (b : Board) (v : Vector) (k : ℕ) → ControlCell b k → rowOn b (vectorRow b v) k ≡ onIn b (v .group) k
-unfolding vectorRow
-row-on b v k x =
-    ap (λ (a : Bool). eqb (digit a) (onValueOf (b .cell k))) (row-bit (b .size) (λ c. cellBit b v c (b .cell c)) k (x .on-board))
-    ∙ control-bit b v k (b .cell k) (control-kind b k (x .is-control))
+pub row-on : (b : Board) (v : Vector) (k : ℕ) → k < b .size → kindOf (b .cell k) ≡ 2 → switchedOn b (vectorRow b v) k ≡ onIn b (v .group) k
+unfolding switchedOn
+row-on b v k l e =
+    ap (λ (a : Bool). eqb (digit a) (onValueOf (b .cell k))) (loaded-is b v k l) ∙ control-bit b v k (b .cell k) e
 
--- a vector's outputs are on by its row as by its group
-live-same : (b : Board) → Sound b → (v : Vector) (n c : ℕ) → c < b .size → live b (rowOn b (vectorRow b v)) n c ≡ live b (onIn b (v .group)) n c
+-- the control cell k has the turn in a vector: a kind 2 cell is loaded with its on value, an open-drain output has its bit in the group's row (of
+-- its own bit nothing can be told where its net's value is 1)
+abbrev pub hasTurn : Board → Vector → ℕ → Bool
+hasTurn b v k = cond (openDrain b k) (rowBit (groupRow b (v .group)) 0 k) (switchedOn b (vectorRow b v) k)
+
+pub turn-is : (b : Board) (v : Vector) (k : ℕ) → ControlCell b k → hasTurn b v k ≡ onIn b (v .group) k
+unfolding groupRow
+turn-is b v k x = go (openDrain b k) refl
+  where
+    go : (a : Bool) → openDrain b k ≡ a → cond a (rowBit (groupRow b (v .group)) 0 k) (switchedOn b (vectorRow b v) k) ≡ onIn b (v .group) k
+    go true e = row-bit (b .size) (onIn b (v .group)) k (x .on-board)
+    go false e =
+        row-on b v k (x .on-board)
+        (⊎-elim (λ q. q) (λ q. absurd (clashes q e)) (control-kind b k (x .is-control)))
+
+-- a vector's outputs have the turn by its rows as by its group
+live-same : (b : Board) → Sound b → (v : Vector) (n c : ℕ) → c < b .size → live b (hasTurn b v) n c ≡ live b (onIn b (v .group)) n c
 unfolding outputOf
 live-same b s v n c l =
     go (controlled b c) refl
   where
-    go : (a : Bool) → controlled b c ≡ a → live b (rowOn b (vectorRow b v)) n c ≡ live b (onIn b (v .group)) n c
+    go : (a : Bool) → controlled b c ≡ a → live b (hasTurn b v) n c ≡ live b (onIn b (v .group)) n c
     go true e =
         let own = s .checked .own-control c l e in
-        ap (λ (a : Bool). outputOf b n c && (alwaysOn b c || a)) (row-on b v (controlFor b c) (record { on-board = own .0; is-control = own .1 }))
-    go false e = rw e (uncontrolled (onNet b n c) (alwaysOn b c) (rowOn b (vectorRow b v) (controlFor b c)) (onIn b (v .group) (controlFor b c)))
+        ap (λ (a : Bool). outputOf b n c && (alwaysOn b c || a)) (turn-is b v (controlFor b c) (record { on-board = own .0; is-control = own .1 }))
+    go false e = rw e (uncontrolled (onNet b n c) (alwaysOn b c) (hasTurn b v (controlFor b c)) (onIn b (v .group) (controlFor b c)))
       where
         uncontrolled : (x y p q : Bool) → (x && y && (y || p)) ≡ (x && y && (y || q))
         uncontrolled true true p q = refl
@@ -107,23 +127,23 @@ group-vector b j l =
 
 -- The theorem, from acceptance alone
 module _ (file : List ℕ) (ok : judge (boardChecks file) ≡ Accepted) where
-  -- in each vector, inserted ones included, exactly one output is on at every net, read off the row's bits
+  -- in each vector, inserted ones included, exactly one output has the turn at every net, read off the vector's row and its group's
   pub vector-drives-once :
       (t n : ℕ) → t < totalOf (boardOf file) → n < boardOf file .nets →
-      count (boardOf file .size) (live (boardOf file) (rowOn (boardOf file) (vectorRow (boardOf file) (vectorAt (boardOf file) t))) n) ≡ 1
+      count (boardOf file .size) (live (boardOf file) (hasTurn (boardOf file) (vectorAt (boardOf file) t)) n) ≡ 1
   vector-drives-once t n l m =
       let b = boardOf file in
       let s = sound file ok in
       count-same (b .size) _ _ (live-same b s (vectorAt b t) n) ∙ group-drives-once file ok (vectorAt b t .group) (vector-group b t l .0) n m
 
-  -- a control cell's bit is its on value exactly in the vectors of the groups that turn it on; so its turn is the group's (turn-in-time)
+  -- a control cell has the turn exactly in the vectors of the groups that turn it on; so its turn is the group's (turn-in-time)
   pub vector-turn :
       (k t : ℕ) → ControlCell (boardOf file) k →
-      rowOn (boardOf file) (vectorRow (boardOf file) (vectorAt (boardOf file) t)) k ≡ onIn (boardOf file) (vectorAt (boardOf file) t .group) k
-  vector-turn k t x = row-on (boardOf file) (vectorAt (boardOf file) t) k x
+      hasTurn (boardOf file) (vectorAt (boardOf file) t) k ≡ onIn (boardOf file) (vectorAt (boardOf file) t .group) k
+  vector-turn k t x = turn-is (boardOf file) (vectorAt (boardOf file) t) k x
 
-  -- a control cell that switches nothing has the other value in every vector
+  -- a control cell that switches nothing has the turn in no vector: a kind 2 cell then has the other value
   pub vector-idle-off :
       (k t : ℕ) → ControlCell (boardOf file) k → ((n : ℕ) → n < boardOf file .nets → drives (boardOf file) k n ≡ false) →
-      rowOn (boardOf file) (vectorRow (boardOf file) (vectorAt (boardOf file) t)) k ≡ false
+      hasTurn (boardOf file) (vectorAt (boardOf file) t) k ≡ false
   vector-idle-off k t x none = vector-turn k t x ∙ idle-off file ok k none (vectorAt (boardOf file) t .group)

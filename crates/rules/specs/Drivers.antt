@@ -7,17 +7,19 @@ use Rattle.base.specs.Tests.{any, all, largest}
 use Rattle.base.specs.Counting.{count}
 use Rattle.rules.specs.File.{Board, none, kindOf, netOf}
 use Rattle.rules.specs.declared.Cell.{Cell}
-use Rattle.rules.specs.declared.Cell.the-variants.{Internal, Input, Control, ThreeState, TwoState}
+use Rattle.rules.specs.declared.Cell.the-variants.{Internal, Input, Control, ThreeState, TwoState, OpenDrain}
 use Rattle.rules.specs.declared.Driver.{Driver}
 use Rattle.rules.specs.declared.Driver.the-variants.{Of, Nothing}
 
--- what this cell drives at position c: a "three-state output" is a driver of the control cell that its record names
+-- what this cell drives at position c: a "three-state output" is a driver of the control cell that its record names, an open-drain output
+-- "counts as a control cell of its own with that one net" (request [3])
 unfoldable pub driverIn : ℕ → Cell → Driver
 driverIn c Internal = Nothing
 driverIn c (Input n) = Nothing
 driverIn c (Control on) = Nothing
 driverIn c (ThreeState k n) = Of k n
 driverIn c (TwoState n) = Nothing
+driverIn c (OpenDrain n) = Of (record { 0 = c }) n
 
 -- what the cell at c drives
 unfoldable pub driverAt : Board → ℕ → Driver
@@ -40,9 +42,13 @@ controlled b c = isDriver (driverAt b c)
 unfoldable pub controlFor : Board → ℕ → ℕ
 controlFor b c = controlIn (driverAt b c)
 
--- "control": what counts as a control cell
+-- "open-drain output", kind 5
+unfoldable pub openDrain : Board → ℕ → Bool
+openDrain b c = eqb (kindOf (b .cell c)) 5
+
+-- what counts as a control cell: "control", and an open-drain output, which is its own
 unfoldable pub isControl : Board → ℕ → Bool
-isControl b k = eqb (kindOf (b .cell k)) 2
+isControl b k = eqb (kindOf (b .cell k)) 2 || openDrain b k
 
 -- "two-state output, always on"
 unfoldable pub alwaysOn : Board → ℕ → Bool
@@ -64,7 +70,7 @@ outputOf b n c = onNet b n c && (controlled b c || alwaysOn b c)
 unfoldable pub driverOf : Board → ℕ → ℕ → Bool
 driverOf b n c = onNet b n c && controlled b c
 
--- "A control cell's net set is the nets of its kind 3 outputs": net n is in k's
+-- "A control cell's net set is the nets of its kind 3 outputs", an open-drain output's its own net: net n is in k's
 unfoldable pub drives : Board → ℕ → ℕ → Bool
 drives b k n = any (b .size) (λ c. driverOf b n c && eqb (controlFor b c) k)
 

@@ -6,7 +6,7 @@ use lib.Dec.{ltb, eqb}
 use lib.ListN.{length, getD, take, drop}
 use Rattle.base.specs.Tests.{all}
 use Rattle.rules.specs.declared.Cell.{Cell}
-use Rattle.rules.specs.declared.Cell.the-variants.{Internal, Input, Control, ThreeState, TwoState}
+use Rattle.rules.specs.declared.Cell.the-variants.{Internal, Input, Control, ThreeState, TwoState, OpenDrain}
 use Rattle.rules.specs.declared.Sums.{Sums}
 use Rattle.rules.specs.declared.Record.{Record}
 use Rattle.rules.specs.declared.Record.the-variants.{Means, Broken}
@@ -136,13 +136,14 @@ unfoldable pub netAt : List ℕ → ℕ → ℕ
 netAt file p = numberAt file (recordAt p + 4)
 
 -- one choice for each kind of the table, and one for any other number
-abbrev pub byKind {ℓ} : {A : Type ℓ} → ℕ → A → A → A → A → A → A → A
-byKind kind internal input control threeState twoState other =
+abbrev pub byKind {ℓ} : {A : Type ℓ} → ℕ → A → A → A → A → A → A → A → A
+byKind kind internal input control threeState twoState openDrain other =
     cond (eqb kind 0) internal
     (cond (eqb kind 1) input
     (cond (eqb kind 2) control
     (cond (eqb kind 3) threeState
-    (cond (eqb kind 4) twoState other))))
+    (cond (eqb kind 4) twoState
+    (cond (eqb kind 5) openDrain other)))))
 
 -- "position of a kind 2 cell"
 unfoldable pub ofKind2 : List ℕ → ℕ → Bool
@@ -153,7 +154,7 @@ abbrev pub means : Bool → Cell → Record
 means fits cell = cond fits (Means cell) Broken
 
 -- the table: for each kind its on value, control and net; `switched` says that the control is the position of a kind 2 cell, `connected`
--- that the net is below N
+-- that the net is below N. Request [3]: "New cell kind 5: control none, on value 0, net below N"
 unfoldable pub tableOf : ℕ → ℕ → ℕ → ℕ → Bool → Bool → Record
 tableOf kind on control net switched connected =
     byKind kind
@@ -162,6 +163,7 @@ tableOf kind on control net switched connected =
     (means (ltb on 2 && eqb control none && eqb net none) (Control (eqb on 1)))
     (means (eqb on 0 && switched && connected) (ThreeState (record { 0 = control }) (record { 0 = net })))
     (means (eqb on 0 && eqb control none && connected) (TwoState (record { 0 = net })))
+    (means (eqb on 0 && eqb control none && connected) (OpenDrain (record { 0 = net })))
     Broken
 
 unfoldable pub recordOf : List ℕ → ℕ → Record
@@ -175,6 +177,7 @@ kindOf (Input n) = 1
 kindOf (Control on) = 2
 kindOf (ThreeState k n) = 3
 kindOf (TwoState n) = 4
+kindOf (OpenDrain n) = 5
 
 unfoldable pub onValueOf : Cell → ℕ
 onValueOf Internal = 0
@@ -182,6 +185,7 @@ onValueOf (Input n) = 0
 onValueOf (Control on) = cond on 1 0
 onValueOf (ThreeState k n) = 0
 onValueOf (TwoState n) = 0
+onValueOf (OpenDrain n) = 0
 
 unfoldable pub controlOf : Cell → ℕ
 controlOf Internal = none
@@ -189,6 +193,7 @@ controlOf (Input n) = none
 controlOf (Control on) = none
 controlOf (ThreeState k n) = k .0
 controlOf (TwoState n) = none
+controlOf (OpenDrain n) = none
 
 unfoldable pub netOf : Cell → ℕ
 netOf Internal = none
@@ -196,6 +201,7 @@ netOf (Input n) = n .0
 netOf (Control on) = none
 netOf (ThreeState k n) = n .0
 netOf (TwoState n) = n .0
+netOf (OpenDrain n) = n .0
 
 -- a broken record has no cell; the check of records refuses it before anything asks
 abbrev pub cellOf : Record → Cell

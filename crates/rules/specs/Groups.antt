@@ -13,7 +13,8 @@ unfoldable pub marked : Board → List ℕ → ℕ → Bool
 marked b [] k = false
 marked b (t ∷ on) k = eqb t k || meets b t k || marked b on k
 
--- one position of a pass: at a kind 3 output whose net is wanted, whose control cell is allowed and unmarked, turn that control cell on
+-- one position of a pass: at a controlled driver whose net is wanted, whose control cell is allowed and unmarked, turn that control cell on;
+-- these are the kind 3 outputs and, by request [3], the open-drain ones: "both passes stop at it"
 unfoldable pub turn : Board → (ℕ → Bool) → (ℕ → Bool) → ℕ → List ℕ → List ℕ
 turn b wanted allowed c on =
     cond
@@ -51,7 +52,7 @@ group b (suc j) = selected b (suc j) (earlier b j)
 unfoldable pub onIn : Board → ℕ → ℕ → Bool
 onIn b g k = has k (group b g)
 
--- "the bit at a position is 1 for a control cell that is on"
+-- "the bit at a position is 1 for a control cell that is on"; an open-drain output's "group bit stands at its own position"
 unfoldable pub groupRow : Board → ℕ → List ℕ
 groupRow b g = rowOf (b .size) (onIn b g)
 

@@ -94,7 +94,7 @@ unfoldable pub blockWrong : List ℕ → ℕ → Bool
 blockWrong file zero = not (eqb (blocksIn file) (blocksFor (cellsOf file)))
 blockWrong file (suc i) = not (cellBlockRight file (suc i))
 
--- 7: "a net has no kind 3 or 4 output"
+-- 7: "a net has no kind 3 or 4 output"; request [3]: "7 and 8 count it as an output"
 unfoldable pub undriven : Board → ℕ → Bool
 undriven b n = not (any (b .size) (outputOf b n))
 
@@ -106,11 +106,11 @@ clash b n c d =
 unfoldable pub clashing : Board → ℕ → Bool
 clashing b n = any (b .size) (λ c. any (b .size) (clash b n c))
 
--- 9: "a net has over 16 controlled drivers"
+-- 9: "a net has over 16 controlled drivers"; request [3]: "9 and 11 as a controlled driver"
 unfoldable pub crowded : Board → ℕ → Bool
 crowded b n = ltb mostDrivers (drivers b n)
 
--- 10: "lowest position that is the smaller of such a pair"
+-- 10: "lowest position that is the smaller of such a pair"; request [3]: "10 and 11 as a control cell"
 unfoldable pub crossed : Board → ℕ → Bool
 crossed b i = any (b .size) (λ j. ltb i j && crosses b i j)
 

@@ -1,6 +1,6 @@
 -- "Codes and vectors": the code's width and bits, the base vectors, those inserted between them, the plan, and a vector's row. Assumes nothing.
 use Prim.Native.Nat.{ℕ, suc, _+_, _*_, _-_, _/_, _%_, _^_}
-use mathlib.Core.Bool.{Bool, false, cond, not, xor, _&&_}
+use mathlib.Core.Bool.{Bool, true, false, cond, not, xor, _&&_}
 use mathlib.Core.List.{List}
 use lib.Dec.{ltb, leb}
 use lib.ListN.{length, getD}
@@ -14,7 +14,7 @@ use Rattle.rules.specs.File.{Board}
 use Rattle.rules.specs.Drivers.{groupsOf}
 use Rattle.rules.specs.Groups.{onIn}
 use Rattle.rules.specs.declared.Cell.{Cell}
-use Rattle.rules.specs.declared.Cell.the-variants.{Internal, Input, Control, ThreeState, TwoState}
+use Rattle.rules.specs.declared.Cell.the-variants.{Internal, Input, Control, ThreeState, TwoState, OpenDrain}
 use Rattle.rules.specs.declared.Step.{Step}
 use Rattle.rules.specs.declared.Step.the-variants.{Base, Inserted}
 
@@ -88,13 +88,15 @@ totalOf b = length (planOf b)
 unfoldable pub vectorAt : Board → ℕ → Vector
 vectorAt b t = vectorOf (basesOf b) (getD (planOf b) t (Base 0))
 
--- "a control cell has its on value when on, else the other; an output has its net's value, on or not; inputs and internal cells 0"
+-- "a control cell has its on value when on, else the other; an output has its net's value, on or not; inputs and internal cells 0"; an
+-- open-drain output "in its turn .. is loaded with the net's value, otherwise with 1" (request [3])
 unfoldable pub cellBit : Board → Vector → ℕ → Cell → Bool
 cellBit b v c Internal = false
 cellBit b v c (Input n) = false
 cellBit b v c (Control on) = cond (onIn b (v .group) c) on (not on)
 cellBit b v c (ThreeState k n) = v .value (n .0)
 cellBit b v c (TwoState n) = v .value (n .0)
+cellBit b v c (OpenDrain n) = cond (onIn b (v .group) c) (v .value (n .0)) true
 
 -- "A vector's row, in the groups' bit order with spare bits 0"
 unfoldable pub vectorRow : Board → Vector → List ℕ

@@ -59,6 +59,8 @@ pub enum Cell {
     Control(bool),
     ThreeState(Position, Net),
     TwoState(Net),
+    // It pulls its line low or lets it go, and is its own control cell.
+    OpenDrain(Net),
 }
 
 // What the cell at a position drives: a controlled driver with its control cell and its net, or nothing

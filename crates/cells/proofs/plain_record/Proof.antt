@@ -5,7 +5,7 @@ use mathlib.Core.List.{List}
 use native.Mathlib.Omega.{arith}
 use lib.ListN.{length, getD}
 use Rattle.rules.specs.File.{recordAt, recordSize, numberAt, byteAt, kindAt, onAt, controlAt, netAt, recordOf, brokenAt}
-use Rattle.rules.specs.declared.Cell.the-variants.{Input, ThreeState, TwoState}
+use Rattle.rules.specs.declared.Cell.the-variants.{Input, ThreeState, TwoState, OpenDrain}
 use Rattle.rules.specs.declared.Record.the-variants.{Means}
 use Rattle.rules.proofs.RecordLaws.{plainRecord, plain-record}
 use Rattle.rules.proofs.Shape.{whole-records}
@@ -54,11 +54,16 @@ returns-5 c =
     ap (λ (n : ℕ). Means (TwoState (record { 0 = n }))) (c .pair4 .ensures) ∙ as-read _ _ _ 4 (entry d .pre) (d .record-start .ensures) (c .before .match .keys5)
 
 returns-6 : tie.Need-returns-6
-unfolding recordOf kindAt byteAt
 returns-6 c =
+    let d = c .before .before .before in
+    ap (λ (n : ℕ). Means (OpenDrain (record { 0 = n }))) (c .pair5 .ensures) ∙ as-read _ _ _ 5 (entry d .pre) (d .record-start .ensures) (c .before .match .keys6)
+
+returns-7 : tie.Need-returns-7
+unfolding recordOf kindAt byteAt
+returns-7 c =
     let no = c .match .rest in
     rw (← c .before .before .record-start .ensures)
-    (no-row _ _ _ _ _ _ (no .0 .0 .0 .0 .1) (no .0 .0 .0 .1) (no .0 .0 .1) (no .0 .1) (no .1))
+    (no-row _ _ _ _ _ _ (no .0 .0 .0 .0 .0 .1) (no .0 .0 .0 .0 .1) (no .0 .0 .0 .1) (no .0 .0 .1) (no .0 .1) (no .1))
 
 pub plain-record-spec : {M : Type 1} → statement M
 plain-record-spec =
@@ -76,5 +81,7 @@ plain-record-spec =
     (λ c κs. let h = room (c .before .before .before) in omega arith)
     (λ c. let h = room (c .before .before) in omega arith)
     (λ c κs. let h = room (c .before .before) in omega arith)
+    (λ c. let h = room (c .before .before) in omega arith)
+    (λ c κs. let h = room (c .before .before) in omega arith)
     (λ c. let d = c .before .before in as-read _ _ _ 0 (entry d .pre) (d .record-start .ensures) (c .match .keys1))
-    returns-2 returns-3 returns-4 returns-5 returns-6)
+    returns-2 returns-3 returns-4 returns-5 returns-6 returns-7)

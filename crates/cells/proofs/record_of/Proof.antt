@@ -13,15 +13,13 @@ use Rattle.cells.proofs.record_of.Statement.{statement}
 use Rattle.cells.proofs.record_of.Tie as tie
 
 as-read :
-    (file : List ℕ) (p at nets control net : ℕ) (switched : Bool) →
+    (file : List ℕ) (p at control net : ℕ) →
     at ≡ recordAt p →
-    nets ≡ netsOf file →
     control ≡ numberAt file (at + 2) →
     net ≡ numberAt file (at + 4) →
-    switched ≡ ofKind2 file control →
-    tableOf (getD file at 0) (getD file (at + 1) 0) control net switched (ltb net nets) ≡ recordOf file p
+    tableOf (getD file at 0) (getD file (at + 1) 0) control net (ofKind2 file control) (ltb net (netsOf file)) ≡ recordOf file p
 unfolding recordOf kindAt onAt controlAt netAt byteAt
-as-read file p at nets control net switched a n k m s = rw (s, k, m, n, a)
+as-read file p at control net a k m = rw (k, m, a)
 
 -- p is one of the file's positions
 one : (s : tie.Start) → s .args .p .0 < cellsOf (s .args .file .now)
@@ -46,11 +44,9 @@ room d = let s = entry d in inside _ _ _ (s .pre .0) (one s) (d .record-start .e
 
 returns : tie.Need-returns
 returns c =
-    let kind-2 = c .before .before in
-    let numbers = kind-2 .before in
+    let numbers = c .before in
     let d = begun (columns numbers) in
-    rw (c .table .ensures)
-    (as-read _ _ _ _ _ _ _ (d .record-start .ensures) (entry d .pre .1 .0 .nets-are) (numbers .before .pair .ensures) (numbers .pair2 .ensures) (kind-2 .of-kind-2 .ensures))
+    rw (c .table .ensures) (as-read _ _ _ _ _ (d .record-start .ensures) (numbers .before .pair .ensures) (numbers .pair2 .ensures))
 
 pub record-of-spec : {M : Type 1} → statement M
 record-of-spec =
@@ -64,5 +60,5 @@ record-of-spec =
     (λ c κs. let h = room (begun c) in omega arith)
     (λ c. let h = room (begun (c .before)) in omega arith)
     (λ c κs. let h = room (begun (c .before)) in omega arith)
-    (λ c κs. let p = entry (begun (columns c)) .pre in (p .0, p .1 .0 .cells-are))
-    (λ c. search needs) (λ c κs. search needs) returns)
+    (λ c κs. let p = entry (begun (columns c)) .pre in (p .0, p .1 .0))
+    returns)

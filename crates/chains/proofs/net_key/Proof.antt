@@ -22,6 +22,10 @@ returns-5 : tie.Need-returns-5
 unfolding netOf
 returns-5 c = output-key _ _ _ _ (c .before .before .before .before .cell-at .ensures) (c .before .before .cell2 .given .1)
 
+returns-6 : tie.Need-returns-6
+unfolding netOf
+returns-6 c = output-key _ _ _ _ (c .before .before .before .before .cell-at .ensures) (c .before .before .cell3 .given .1)
+
 pub net-key-spec : {M : Type 1} → statement M
 net-key-spec =
     tie.close
@@ -34,8 +38,11 @@ net-key-spec =
     (λ c. search needs)
     (λ c. search needs)
     (λ c. search needs)
+    (λ c. search needs)
+    (λ c. search needs)
     returns
     returns-2
     returns-3
     returns-4
-    returns-5)
+    returns-5
+    returns-6)
