@@ -7,6 +7,7 @@
 #include <string.h>
 
 #define NAMES_OPTION {"--names", "TEXT", "say nets and cells by their names in this text description of the board", false}
+#define NEXT_LINE "\n                       "   /* within an option's help */
 
 static const char check_help[] =
     "Accepted: the board's figures. Refused: the refusal in words, the cells and nets that it is about, and what to do.\n"
@@ -36,7 +37,8 @@ static const char simulate_help[] =
     "CAPTURE gets the rows that a board with the given faults would be read as, none: a healthy board. P is a position, V is\n"
     "0 or 1, A, B and W are nets; faults may be given several times. To qualify a bench before it judges anything. A CAPTURE\n"
     "that is there already is left alone unless --force is given: it may be a scanned one. Where nothing drives a net that has\n"
-    "an open-drain output, its resistor holds it at 1; any other net floats.";
+    "an open-drain output, its resistor holds it at 1; any other net floats. --open opens one cell's connection: a pin with an\n"
+    "output cell and an input cell has two, and a lifted pin whose input cell still reads its own output cannot be given.";
 
 static const char report_help[] =
     "One HTML page that needs nothing beside it: the verdict, the numbers, and each net with its words. Prints RELEASE or HOLD\n"
@@ -118,10 +120,11 @@ const struct command commands[] = {
      .option = {{"--and", "A,B,..", "these nets are tied, and a 0 wins", true},
                 {"--or", "A,B,..", "these nets are tied, and a 1 wins, but no resistor's", true},
                 {"--wins", "W:A,B,..", "these nets are tied, and net W's drivers win", true},
-                {"--open", "P=V", "the pin at P is open: an input reads V; an output no longer drives, and its net floats to V", true},
-                {"--stuck", "P=V", "the output at P gives V whatever it is loaded with: an open-drain one pulls for ever, or never", true},
-                {"--on", "P", "the control cell at P is stuck on: its outputs always drive", true},
-                {"--off", "P", "the control cell at P is stuck off: its outputs never drive", true},
+                {"--open", "P=V", "the pin at P is open: an input reads V; an output no longer drives, and where nothing else" NEXT_LINE
+                                  "drives or holds its net, that floats to V", true},
+                {"--stuck", "P=V", "the output at P always gives V: an open-drain one pulls for ever (0) or never (1)", true},
+                {"--on", "P", "the control cell at P is stuck on: its outputs always drive (of an open-drain output: --stuck P=0)", true},
+                {"--off", "P", "the control cell at P is stuck off: its outputs never drive (of an open-drain output: --stuck P=1)", true},
                 {"--fight", "low|high", "where outputs that are on at one net differ, a 0 wins (so unless given) or a 1", true},
                 {"--float", "0|1|keep", "what a net reads that nothing drives and no resistor holds; 1 unless given", true},
                 {"--no-resistor", "A", "net A, which has an open-drain output, has no resistor and floats where nothing drives it", true},

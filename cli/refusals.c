@@ -28,7 +28,8 @@ static const struct {
      "The net's driver was left out of the file, or no boundary-scan cell drives the net. In the second case it cannot be tested\n"
      "here: take the net out of the file and make its cells internal; a cell itself is never left out."},
     {"a net has a kind 4 output and another output, or two outputs of one control cell",
-     "Two outputs would drive or pull against each other. Compare them with the circuit diagram; do not scan the board before."},
+     "Two outputs would drive or pull against each other. Compare them with the circuit diagram, and do not scan the board before;\n"
+     "perhaps an open-drain output is written as two-state. If the diagram agrees, the board is outside what this test can do."},
     {"a net has over 16 controlled drivers",
      "Compare the net's outputs with the circuit diagram; perhaps two nets have been given one number. If the diagram agrees, the\n"
      "board is outside what this test can do."},

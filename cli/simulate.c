@@ -57,11 +57,12 @@ static bool take_net(struct reader *reader, const char *word, unsigned *net)
     return false;
 }
 
-/* A position whose cell is of one of these kinds, a bit for each; `what` are these in words. */
+/* A position whose cell is of one of these kinds, a bit for each; `what` are these in words. Only --on and --off bar open-drain outputs. */
 static bool take_position(struct reader *reader, const char *word, unsigned kinds, const char *what, unsigned *position)
 {
-    static const char *const kind_words[] = {"an internal cell",     "an input",           "a control cell",
-                                             "a three-state output", "a two-state output", "an open-drain output"};
+    static const char *const kind_words[] = {
+        "an internal cell",     "an input",           "a control cell",
+        "a three-state output", "a two-state output", "an open-drain output: --stuck P=0 has it pull for ever, --stuck P=1 never"};
     const struct description *says = &reader->board->says;
     char range[RANGE_SIZE];
     if (!find_number(word, says->names.cell, says->cells, position)) {

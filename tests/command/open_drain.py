@@ -176,6 +176,15 @@ def check_verdicts(program):
         program.expect(status, "marks", "line.bsin", "-", given=capture, out=marks)
 
 
+def check_switched(program):
+    """An open-drain output is no control cell that could be stuck: who asks for that is told what to ask for."""
+    write(program.folder, "line.bsin", lines_board())
+    for option in ("--on", "--off"):
+        program.expect(3, "simulate", "line.bsin", "-", option, "1", err=b"found 1, an open-drain output: --stuck P=0 has it pull for ever, --stuck P=1 never")
+        ran = program.expect(3, "simulate", "line.bsin", "-", option, "3", err=b"found 3, an input")
+        program.check(ran.words, b"--stuck" not in ran.err, "told %r of an input" % ran.err)
+
+
 # --------------------------------------------------------------------------
 # examples/board-i2c and docs/OPERATING.md
 # --------------------------------------------------------------------------
@@ -258,6 +267,7 @@ def run(program):
     check_refusals(program)
     check_levels(program)
     check_verdicts(program)
+    check_switched(program)
     check_example(program)
     check_turns(program)
     check_operating(program)

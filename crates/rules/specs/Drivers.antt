@@ -25,11 +25,12 @@ driverIn c (OpenDrain n) = Of (record { 0 = c }) n
 unfoldable pub driverAt : Board → ℕ → Driver
 driverAt b c = driverIn c (b .cell c)
 
--- a driver has a control cell; "65,535 means none"
+-- a driver has a control cell
 unfoldable pub isDriver : Driver → Bool
 isDriver (Of k n) = true
 isDriver Nothing = false
 
+-- which; "65,535 means none"
 unfoldable pub controlIn : Driver → ℕ
 controlIn (Of k n) = k .0
 controlIn Nothing = none

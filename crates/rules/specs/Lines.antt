@@ -1,5 +1,5 @@
 -- What the lines of a board carry while a row is in its scan chain: which outputs act on a net, and the level that they make. Read off the
--- row's bits alone: nothing here knows of groups or vectors. Assumes nothing.
+-- board's cells and the row's bits: nothing here knows of groups or vectors. Assumes nothing.
 use Prim.Native.Nat.{ℕ}
 use mathlib.Core.Bool.{Bool, true, false, not, _&&_, _||_}
 use mathlib.Core.List.{List}
@@ -37,6 +37,7 @@ acts b row n c = onNet b n c && actsAs b row c (b .cell c)
 unfoldable pub hasResistor : Board → ℕ → Bool
 hasResistor b n = any (b .size) (λ c. onNet b n c && openDrain b c)
 
--- the level of net n: the AND of the bits of all outputs that act on it and of the resistor's 1
+-- the level of net n: the AND of the bits of all outputs that act on it, and 1 where none acts, as its resistor holds it. That a net on which
+-- nothing acts has one is not said here, but proved (`vector-held`)
 unfoldable pub level : Board → List ℕ → ℕ → Bool
 level b row n = all (b .size) (λ c. not (acts b row n c) || loaded row c)

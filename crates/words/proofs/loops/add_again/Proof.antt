@@ -2,7 +2,7 @@
 use Prim.Native.Nat.{ℕ, suc, _/_, _%_, _^_, _<_}
 use mathlib.Core.Path.{_≡_, refl, sym, _∙_, ap}
 use mathlib.Core.Logic.{⊎-elim}
-use mathlib.Core.Bool.{Bool, true, false, _||_}
+use mathlib.Core.Bool.{Bool, true, false, _||_, or-false}
 use native.Mathlib.Nat.{two-pow-succ}
 use native.Mathlib.Omega.{arith}
 use borrow.Author.Needs.{needs}
@@ -20,10 +20,6 @@ use Rattle.words.proofs.SetLaws.{member-plus}
 use Rattle.words.proofs.loops.add_again.Statement.{statement}
 use Rattle.words.proofs.loops.add_again.Tie as tie
 
-or-neither : (a b : Bool) → b ≡ false → (a || b) ≡ a
-or-neither true b e = refl
-or-neither false b e = e
-
 -- a word with digit k besides has the same digits where it had digit k before
 same-digits : (w k : ℕ) → bit w k ≡ true → (j : ℕ) → bit (bitOr w (2 ^ k)) j ≡ bit w j
 same-digits w k t j = bit-or w (2 ^ k) j ∙ ⊎-elim here there (decided (eqb j k))
@@ -32,7 +28,7 @@ same-digits w k t j = bit-or w (2 ^ k) j ∙ ⊎-elim here there (decided (eqb j
     here e = let own : bit w j ≡ true = ap (bit w) (eqb-true j k e) ∙ t in or-left _ own ∙ sym own
 
     there : eqb j k ≡ false → (bit w j || bit (2 ^ k) j) ≡ bit w j
-    there e = or-neither (bit w j) _ (bit-pow k j ∙ e)
+    there e = ap (λ (a : Bool). bit w j || a) (bit-pow k j ∙ e) ∙ or-false (bit w j)
 
 has-digit : (w k : ℕ) → w < 2 ^ 64 → k < 64 → eqb (bitOr w (2 ^ k)) w ≡ bit w k
 has-digit w k l h =
