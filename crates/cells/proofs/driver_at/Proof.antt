@@ -44,7 +44,7 @@ begun d = d .before .before .before
 returns : tie.Need-returns
 returns c =
     let d = begun (c .before) in
-    let low = c .if1 .taken in
+    let no-output = c .if1 .taken in
     other _ _ _ (entry d .pre) (d .record-start .ensures) (λ k. omega arith) (λ k. omega arith)
 
 returns-2 : tie.Need-returns-2
