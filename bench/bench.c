@@ -3,7 +3,7 @@
  * answers, and measures. A board that is refused is only counted.
  *
  *     bench stack     prints the boards, and the deepest stack of each question in bytes
- *     bench count     under callgrind: one dump for each call, named by its trigger: board, order, question, what was asked, implementation
+ *     bench count     under callgrind, or with counter.c: one dump for each call, named by its trigger: board, order, question, what was asked, implementation
  *
  * A third implementation does nothing. It costs what asking costs, which is to be taken off.
  */

@@ -1,6 +1,7 @@
 """The tables of the benchmark and what they say of the goals, from what bench/bench.c leaves.
 
-    python3 tables.py PRINTED DUMPS     PRINTED: what `bench stack` printed; DUMPS: the folder of callgrind's dumps of `bench count`
+    python3 tables.py PRINTED DUMPS     PRINTED: what `bench stack` printed; DUMPS: the folder of the dumps of `bench count`, one for each
+                                        call: callgrind's, each in a file, or those of bench/counter.c, all in one
 """
 
 import collections
@@ -54,22 +55,20 @@ def read_printed(name):
     return boards, stacks
 
 
-def read_dump(name):
-    """(board, order, question, what was asked, implementation) and its instructions, or None for the dump at the program's end."""
+def read_dumps(name):
+    """Of each dump in a file (board, order, question, what was asked, implementation) and its instructions; not of that at the program's end."""
     label = None
     with open(name) as lines:
         for line in lines:
             if line.startswith(TRIGGER):
                 label = tuple(line[len(TRIGGER):].split())
-            elif line.startswith("summary:"):
-                return (label, int(line.split()[1])) if label else None
-    return None
+            elif line.startswith("summary:") and label:
+                yield label, int(line.split()[1])
 
 
 def read_calls(folder, boards):
     """All calls, without the instructions of asking: by board as they are made, then by order, question and what was asked."""
-    dumps = (read_dump(os.path.join(folder, name)) for name in os.listdir(folder))
-    found = dict(dump for dump in dumps if dump)
+    found = dict(dump for name in os.listdir(folder) for dump in read_dumps(os.path.join(folder, name)))
     asking = {label[2]: number for label, number in found.items() if label[4] == "empty"}
     calls = [Call(*call, number - asking[call[2]], found[(*call, "plain")] - asking[call[2]])
              for (*call, of), number in found.items() if of == "rigcandle"]
