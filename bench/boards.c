@@ -88,12 +88,17 @@ static void make_e(struct board *b)
     fill_with_inputs(b, 11);
 }
 
-/* Three wide buses with 16, 8 and 4 drivers. */
-static void make_bus(struct board *b)
+/* Three wide buses with 16, 8 and 4 drivers, over 80 nets. */
+static void add_buses(struct board *b)
 {
     add_bus(b, 16, 0, 32);
     add_bus(b, 8, 32, 32);
     add_bus(b, 4, 64, 16);
+}
+
+static void make_bus(struct board *b)
+{
+    add_buses(b);
     add_always_on(b, 80, 96);
     fill_with_inputs(b, 1024);
 }
@@ -109,10 +114,15 @@ static void add_tree(struct board *b, unsigned tree)
     }
 }
 
+static void add_trees(struct board *b, unsigned trees)
+{
+    for (unsigned tree = 0; tree < trees; tree++)
+        add_tree(b, tree);
+}
+
 static void make_nested(struct board *b)
 {
-    for (unsigned tree = 0; tree < 11; tree++)
-        add_tree(b, tree);
+    add_trees(b, 11);
     fill_with_inputs(b, 1024);
 }
 
@@ -199,6 +209,32 @@ static void make_shared(struct board *b)
     b->refusal = 8;
     add_bus(b, 499, 0, 1);
     add(b, THREE_STATE, 0, b->size - 2, 0);
+    fill_with_inputs(b, 1024);
+}
+
+/* Two control cells that cross: each has a net that the other lacks, and one is shared. */
+static void add_crossing(struct board *b, unsigned first, unsigned width)
+{
+    add_driver(b, 1, first, width);
+    add_driver(b, 0, first + width - 1, width);
+}
+
+/* Refused late: above all control cells of `nested`, none of which crosses another, are two that cross; reversed they come first. */
+static void make_crossed_trees(struct board *b)
+{
+    b->refusal = 10;
+    add_trees(b, 11);
+    add_crossing(b, 88, 2);
+    fill_with_inputs(b, 1024);
+}
+
+/* The same above the drivers of `bus`, each of which shares all its nets with up to 15 others. */
+static void make_crossed_buses(struct board *b)
+{
+    b->refusal = 10;
+    add_buses(b);
+    add_crossing(b, 80, 8);
+    add_always_on(b, 95, 96);
     fill_with_inputs(b, 1024);
 }
 
@@ -297,6 +333,8 @@ unsigned make_boards(struct board *boards)
         make_growth(begin(next++, "wide", 128 * units, 16 * units, 4 * units), units, 1);
     make_crowd(begin(next++, "crowd", 0, 1, 8));
     make_shared(begin(next++, "shared", 0, 1, 8));
+    make_crossed_trees(begin(next++, "crossed", 1, 91, 8));
+    make_crossed_buses(begin(next++, "crossed", 2, 96, 8));
     assert(next - boards <= MOST_BOARDS);
     return (unsigned)(next - boards);
 }

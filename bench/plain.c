@@ -1,6 +1,7 @@
 /*
- * plain.c - the four questions of document 01 with request [3]'s open-drain cells, written from their sentences as one would write them in
- * C: read the file into a struct, check it, work with sets of nets as bits. No tricks and no heap; about 80 KB of stack.
+ * plain.c - the four questions of document 01, with request [1]'s second place and request [3]'s open-drain cells, written from their
+ * sentences as one would write them in C: read the file into a struct, check it, work with sets of nets as bits. No tricks and no heap;
+ * about 80 KB of stack.
  */
 #include "plain.h"
 
@@ -95,6 +96,12 @@ static bool holds(const struct net_set *s, const struct net_set *t)
         if (t->word[i] & ~s->word[i])
             return false;
     return true;
+}
+
+/* they meet and neither holds the other */
+static bool cross(const struct net_set *s, const struct net_set *t)
+{
+    return meet(s, t) && !holds(s, t) && !holds(t, s);
 }
 
 static struct net_set differing(const struct net_set *s, const struct net_set *t)
@@ -315,15 +322,18 @@ static int drivers_fault(const struct board *b)
     return NOWHERE;
 }
 
-/* 10: two control cells' net sets meet and neither holds the other. An open-drain cell's one net is held by every set that meets it. */
-static int crossing_fault(const struct board *b)
+/*
+ * 10: two control cells' net sets meet and neither holds the other. The second place is the smallest larger position that crosses the
+ * first. An open-drain cell's one net is held by every set that meets it.
+ */
+static int crossing_fault(const struct board *b, int *second)
 {
     for (unsigned i = 0; i < b->switches; i++)
-        for (unsigned j = i + 1; j < b->switches; j++) {
-            const struct net_set *s = &b->set[b->control[i]], *t = &b->set[b->control[j]];
-            if (meet(s, t) && !holds(s, t) && !holds(t, s))
+        for (unsigned j = i + 1; j < b->switches; j++)
+            if (cross(&b->set[b->control[i]], &b->set[b->control[j]])) {
+                *second = b->control[j];
                 return b->control[i];
-        }
+            }
     return NOWHERE;
 }
 
@@ -549,46 +559,46 @@ static uint8_t mark(const struct board *b, const struct net_set *same, unsigned 
 
 /* ---------------------------------------------------------------- the four questions */
 
-static uint64_t refused(unsigned number, int place)
+static uint64_t refused(unsigned number, int place, int second)
 {
-    return number | (uint64_t)place << 8;
+    return number | (uint64_t)place << 8 | (uint64_t)second << 24;
 }
 
 /* Refusals 1 to 12, packed; 0 if the board is accepted, which then stands in b and its plan in plan. */
 static uint64_t read_board(const uint8_t *file, size_t file_len, struct board *b, struct plan *plan)
 {
-    int place;
+    int place, second;
     if ((place = length_fault(file_len)) != NOWHERE)
-        return refused(1, place);
+        return refused(1, place, 0);
     if ((place = sums_fault(file, file_len)) != NOWHERE)
-        return refused(2, place);
+        return refused(2, place, 0);
     if ((place = header_fault(file)) != NOWHERE)
-        return refused(3, place);
+        return refused(3, place, 0);
     b->size = u16_at(file + 10);
     b->nets = u16_at(file + 12);
     b->limit = u16_at(file + 14);
     if ((place = limits_fault(b)) != NOWHERE)
-        return refused(4, place);
+        return refused(4, place, 0);
     if ((place = blocks_fault(file, file_len, b->size)) != NOWHERE)
-        return refused(5, place);
+        return refused(5, place, 0);
     read_cells(file, b);
     if ((place = records_fault(b)) != NOWHERE)
-        return refused(6, place);
+        return refused(6, place, 0);
     list_controls(b);
     count_outputs(b);
     if ((place = no_output_fault(b)) != NOWHERE)
-        return refused(7, place);
+        return refused(7, place, 0);
     if ((place = clash_fault(b)) != NOWHERE)
-        return refused(8, place);
+        return refused(8, place, 0);
     if ((place = drivers_fault(b)) != NOWHERE)
-        return refused(9, place);
-    if ((place = crossing_fault(b)) != NOWHERE)
-        return refused(10, place);
+        return refused(9, place, 0);
+    if ((place = crossing_fault(b, &second)) != NOWHERE)
+        return refused(10, place, second);
     if ((place = uneven_fault(b)) != NOWHERE)
-        return refused(11, place);
+        return refused(11, place, 0);
     make_plan(b, plan);
     if ((place = total_fault(plan)) != NOWHERE)
-        return refused(12, place);
+        return refused(12, place, 0);
     return 0;
 }
 
@@ -600,7 +610,7 @@ uint64_t plain_groups(const uint8_t *file, size_t file_len, uint8_t *out, size_t
     if (refusal != 0)
         return refusal;
     if (out_len < plan.groups * row_bytes(b.size))
-        return refused(15, 0);
+        return refused(15, 0, 0);
     select_groups(&b, plan.groups, out);
     return (uint64_t)plan.groups << 8;
 }
@@ -624,9 +634,9 @@ uint64_t plain_vector(const uint8_t *file, size_t file_len, uint64_t number, uin
     if (refusal != 0)
         return refusal;
     if (number >= plan.total)
-        return refused(13, 0);
+        return refused(13, 0, 0);
     if (out_len < row_bytes(b.size))
-        return refused(15, 0);
+        return refused(15, 0, 0);
     unsigned base = 0, t = (unsigned)number;
     while (t > inserted_after(&plan, base)) {
         t -= 1 + inserted_after(&plan, base);
@@ -648,9 +658,9 @@ uint64_t plain_marks(const uint8_t *file, size_t file_len, const uint8_t *captur
     if (refusal != 0)
         return refusal;
     if (capture_len != (size_t)plan.total * row_bytes(b.size))
-        return refused(14, 0);
+        return refused(14, 0, 0);
     if (out_len < b.nets)
-        return refused(15, 0);
+        return refused(15, 0, 0);
     read_capture(&b, &plan, capture, same);
     uint64_t found[4] = {0};
     for (unsigned net = 0; net < b.nets; net++) {

@@ -1,6 +1,6 @@
 /*
- * plain.h - the four questions of document 01, with request [3]'s open-drain cells, in plain C, with the signatures and the 64 bits of
- * include/rigcandle.h: what the library is measured against. Not part of the product.
+ * plain.h - the four questions of document 01, with request [1]'s second place and request [3]'s open-drain cells, in plain C, with the
+ * signatures and the 64 bits of include/rigcandle.h: what the library is measured against. Not part of the product.
  */
 #ifndef PLAIN_H
 #define PLAIN_H

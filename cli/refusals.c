@@ -1,6 +1,6 @@
 /*
  * refusals.c - the library's refusals in words: when each is given, what to do, and for a board the bytes, cells and nets that it is
- * about. The number and the place are the library's; what is looked up here only explains them.
+ * about. The number and the places are the library's; what is looked up here only explains them.
  */
 #include "refusals.h"
 #include "files.h"
@@ -34,8 +34,9 @@ static const struct {
      "Compare the net's outputs with the circuit diagram; perhaps two nets have been given one number. If the diagram agrees, the\n"
      "board is outside what this test can do."},
     {"two control cells' net sets meet and neither holds the other",
-     "For the layout engineer: these control cells share a net, and each has a net that the other lacks. If the diagram agrees, the\n"
-     "board is outside what this test can do."},
+     "For the layout engineer: compare these outputs with the diagram and the devices' descriptions: the net of each, its control\n"
+     "cell, and whether one is missing here. Then check again. If all agrees, the board is outside what this test can do: of two\n"
+     "control cells that share a net one must switch all nets of the other."},
     {"a control cell's nets differ in number of controlled drivers",
      "For the layout engineer: compare the drivers of these nets with the diagram. If it agrees, the board is outside what this\n"
      "test can do: all nets of a control cell must have equally many drivers, open-drain outputs counted."},
@@ -192,10 +193,15 @@ static void explain_net(FILE *out, const struct board *board, unsigned net)
         fputs("  no cell has this net\n", out);
 }
 
+static bool is_output_of(const struct cell *cell, unsigned control, unsigned net)
+{
+    return cell->kind == THREE_STATE && cell->control == control && cell->net == net;
+}
+
 static bool switches(const struct board *board, unsigned control, unsigned net)
 {
     for (unsigned c = 0; c < board->says.cells; c++)
-        if (board->says.cell[c].kind == THREE_STATE && board->says.cell[c].control == control && board->says.cell[c].net == net)
+        if (is_output_of(&board->says.cell[c], control, net))
             return true;
     return false;
 }
@@ -219,8 +225,8 @@ static void print_drivers(FILE *out, const struct board *board, unsigned net)
     fputc(')', out);
 }
 
-/* A control cell's nets in a line, with their numbers of controlled drivers where these are asked for. */
-static void print_set(FILE *out, const struct board *board, unsigned control, bool drivers)
+/* A control cell's nets in a line, with their numbers of controlled drivers. */
+static void explain_uneven(FILE *out, const struct board *board, unsigned control)
 {
     const char *before = " switches ";
     fputs("  ", out);
@@ -229,35 +235,54 @@ static void print_set(FILE *out, const struct board *board, unsigned control, bo
         if (switches(board, control, net)) {
             fputs(before, out);
             print_net(out, board, net);
-            if (drivers)
-                print_drivers(out, board, net);
+            print_drivers(out, board, net);
             before = ", ";
         }
     fputc('\n', out);
 }
 
-/* Whether two control cells have a net in common, and each one that the other lacks. */
-static bool cross(const struct board *board, unsigned one, unsigned other)
+/* A control cell's output on a net; it has one there at most, or check 8 would have refused the board. */
+static void print_output(FILE *out, const struct board *board, unsigned control, unsigned net, const char *before)
 {
-    bool common = false, alone = false, other_alone = false;
-    for (unsigned net = 0; net < board->says.nets; net++) {
-        bool here = switches(board, one, net), there = switches(board, other, net);
-        common = common || (here && there);
-        alone = alone || (here && !there);
-        other_alone = other_alone || (!here && there);
-    }
-    return common && alone && other_alone;
+    for (unsigned c = 0; c < board->says.cells; c++)
+        if (is_output_of(&board->says.cell[c], control, net)) {
+            fputs(before, out);
+            print_position(out, board, c);
+        }
 }
 
-/* The control cell, and the first above it that crosses it. */
-static void explain_crossing(FILE *out, const struct board *board, unsigned position)
+/* The nets that one control cell switches and the other does, too, or does not: a line each, with the outputs that the two have there. */
+static void print_nets(FILE *out, const struct board *board, unsigned one, unsigned other, bool both)
 {
-    print_set(out, board, position, false);
-    for (unsigned other = position + 1; other < board->says.cells; other++)
-        if (board->says.cell[other].kind == CONTROL && cross(board, position, other)) {
-            print_set(out, board, other, false);
-            return;
+    for (unsigned net = 0; net < board->says.nets; net++)
+        if (switches(board, one, net) && switches(board, other, net) == both) {
+            fputs("    ", out);
+            print_net(out, board, net);
+            print_output(out, board, one, net, ": ");
+            print_output(out, board, other, net, ", ");
+            fputc('\n', out);
         }
+}
+
+static void explain_alone(FILE *out, const struct board *board, unsigned one, unsigned other)
+{
+    fputs("  of the two only ", out);
+    print_position(out, board, one);
+    fputs(" switches\n", out);
+    print_nets(out, board, one, other, false);
+}
+
+/* What makes these two control cells cross: the nets that they share, and those that each has alone. */
+static void explain_crossing(FILE *out, const struct board *board, unsigned one, unsigned other)
+{
+    fputs("  ", out);
+    print_position(out, board, one);
+    fputs(" and ", out);
+    print_position(out, board, other);
+    fputs(" both switch\n", out);
+    print_nets(out, board, one, other, true);
+    explain_alone(out, board, one, other);
+    explain_alone(out, board, other, one);
 }
 
 static void explain_vectors(FILE *out, const struct board *board)
@@ -297,10 +322,10 @@ static void explain(FILE *out, const struct board *board, unsigned number, unsig
         explain_net(out, board, place);
         break;
     case RIGCANDLE_CROSSING:
-        explain_crossing(out, board, place);
+        explain_crossing(out, board, place, rigcandle_second_place(board->counted));
         break;
     case RIGCANDLE_UNEVEN:
-        print_set(out, board, place, true);
+        explain_uneven(out, board, place);
         break;
     default:
         explain_vectors(out, board);

@@ -8,7 +8,7 @@
  *
  *     uint64_t answer = count(file, file_len);
  *     if (rigcandle_refusal(answer) != RIGCANDLE_ACCEPTED)
- *         printf("refused %u %u\n", rigcandle_refusal(answer), rigcandle_place(answer));
+ *         printf("refused %u %u %u\n", rigcandle_refusal(answer), rigcandle_place(answer), rigcandle_second_place(answer));
  *     else
  *         printf("vectors %u\n", rigcandle_count_total(answer));
  *
@@ -47,7 +47,7 @@
 #include <stdint.h>
 
 /* The version of library, header and command, and the only place where it stands. */
-#define RIGCANDLE_VERSION "1.1.0"
+#define RIGCANDLE_VERSION "1.2.0"
 
 /* An answer that nobody looks at may be a refusal taken for a clean board: such a call is warned of. */
 #if defined(__GNUC__) || defined(__clang__)
@@ -72,7 +72,8 @@ enum {
 
 /*
  * The refusals, checked in ascending order: the first that applies is given. 1 to 12 belong to all four questions, 13 to vector, 14 to
- * marks, 15 to the three that write. In brackets what rigcandle_place gives.
+ * marks, 15 to the three that write. In brackets what rigcandle_place gives; 10 alone has a second place too, which
+ * rigcandle_second_place gives.
  *
  * Outputs are cells of kind 3 (three-state), 4 (two-state, always on) and 5 (open-drain); those of kind 3 and 5 are controlled drivers.
  * Control cells are the cells of kind 2, each with the nets of its kind 3 outputs, and those of kind 5, each with its own one net; so 10
@@ -91,7 +92,7 @@ enum {
     RIGCANDLE_CLASH = 8,             /* a net has a kind 4 output and another output, or two outputs of one control cell (lowest net) */
     RIGCANDLE_DRIVERS = 9,           /* a net has over 16 controlled drivers (lowest net) */
     RIGCANDLE_CROSSING = 10,         /* two control cells' net sets meet and neither holds the other (lowest position that is the
-                                        smaller of such a pair) */
+                                        smaller of such a pair; second place: smallest larger position that crosses it) */
     RIGCANDLE_UNEVEN = 11,           /* a control cell's nets differ in number of controlled drivers (lowest such cell) */
     RIGCANDLE_VECTORS = 12,          /* over 4,096 vectors (0) */
     RIGCANDLE_VECTOR_NUMBER = 13,    /* vector number not below the count (0) */
@@ -150,7 +151,8 @@ uint64_t marks(const uint8_t *file, size_t file_len, const uint8_t *capture, siz
 #endif
 
 /* ------------------------------------------------------------------------------------------------------------------------------------
- * Reading an answer. A refused call has number and place, and every other number is 0; an accepted one has 0 for number and place.
+ * Reading an answer. A refused call has number and place, refusal 10 a second place besides, and every other number is 0; an accepted one
+ * has 0 for number and both places.
  */
 
 /* The number in `width` of an answer's bits, from bit `from` on. */
@@ -183,7 +185,8 @@ static inline unsigned rigcandle_place(uint64_t answer)
     return rigcandle_if_refused(answer, 8, 16);
 }
 
-/* The refusal's second place, any question; 0 for every refusal of today. */
+/* The refusal's second place, any question: of RIGCANDLE_CROSSING the position of the other control cell, which is above the place and so
+ * never 0; 0 means that there is none, as of every other refusal. */
 static inline unsigned rigcandle_second_place(uint64_t answer)
 {
     return rigcandle_if_refused(answer, 24, 16);

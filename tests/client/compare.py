@@ -1,12 +1,12 @@
-"""The library, asked by client.c, against document 01 with request [3] in
-Python: every bit of every answer and every byte of every lent buffer.
+"""The library, asked by client.c, against document 01 with requests [1] and [3]
+in Python: every bit of every answer and every byte of every lent buffer.
 
     python3 compare.py CLIENT...     CLIENT is the command that starts client.c
 
 Boards, damage and captures are drawn by tests/reference/boards.py from a seed,
 which is printed; RIGCANDLE_SEED=n sets it.  What is expected comes from
-tests/reference/document01.py, and for the figures of document 01 and of
-open-drain cells from the documents, by hand.  All cases are asked twice:
+tests/reference/document01.py, and for the figures of document 01, of crossings
+and of open-drain cells from the documents, by hand.  All cases are asked twice:
 buffers that end at forbidden memory, and buffers that begin after it.
 """
 
@@ -70,8 +70,8 @@ def packed(*fields):
     return bits
 
 
-def refused(number, place):
-    return packed((8, number), (16, place))
+def refused(number, place, second=0):
+    return packed((8, number), (16, place), (16, second))
 
 
 def counted(groups, patterns, total):
@@ -91,10 +91,10 @@ SPARE = b"\xAA\xAA"  # bytes past those needed
 LISTING_E = ((1, "2000"), (1, "E400"), (1, "B200"), (2, "0900"), (2, "CD00"), (2, "9B00"))
 
 
-def refused_by_all(label, file, number, place):
+def refused_by_all(label, file, number, place, second=0):
     for question in QUESTIONS:
         out = b"" if question == "count" else bytes(range(256)) * 8
-        yield by_hand(label, question, file, refused(number, place), out, out=out)
+        yield by_hand(label, question, file, refused(number, place, second), out, out=out)
 
 
 def row_figure(label, file, number, group, row):
@@ -154,7 +154,7 @@ def figures_of_limits():
     yield from refused_by_all("17 drivers on one net", drivers_on_one_net(17), 9, 0)
     none = boards.NONE
     crossing = [(3, 0, 4, 0), (2, 1, none, none), (3, 0, 1, 1), (3, 0, 1, 2), (2, 1, none, none), (3, 0, 4, 1)]
-    yield from refused_by_all("sets {0, 1} and {1, 2}", boards.encode(crossing, 3, 2), 10, 1)
+    yield from refused_by_all("sets {0, 1} and {1, 2}", boards.encode(crossing, 3, 2), 10, 1, 4)
     at = boards.near_limit(random.Random(1), False, boards.AT_LIMIT)
     yield by_hand("4,096 vectors", "count", at, counted(16, 8, 4096))
     yield by_hand("4,096 vectors, number 4,096", "vector", at, refused(13, 0), SPARE, number=4096, out=SPARE)
@@ -168,6 +168,39 @@ def figures_of_000():
     rows = b"".join(sum(1 << c for c in on).to_bytes(4, "little") for on in groups)
     yield by_hand("source 000, tables 3 and 5", "groups", boards.table3(), packed((8, 0), (8, 3)),
                   rows + SPARE, out=b"\xFF" * 12 + SPARE)
+
+
+# --------------------------------------------------------------------------
+# Figures of crossings, worked out by hand from request [1]
+# --------------------------------------------------------------------------
+
+def net_sets_board(sets, size):
+    """Of `size` cells: control cells at the positions of `sets`, with these nets; their
+    outputs, the last first, at the lowest positions that are left; the rest internal."""
+    none = boards.NONE
+    cells = [(0, 0, none, none)] * size
+    for c in sets:
+        cells[c] = (2, c % 2, none, none)
+    outputs = [(3, 0, c, net) for c in sets for net in sets[c]]
+    for q in range(size):
+        if q not in sets and outputs:
+            cells[q] = outputs.pop()
+    return boards.encode(cells, 1 + max(max(nets) for nets in sets.values() if nets), 2)
+
+
+def figures_of_crossings():
+    for label, sets, size, first, second in (
+            ("one pair", {0: [0, 1], 1: [1, 2]}, 6, 0, 1),
+            ("two cross it, the smaller by its higher net", {2: [0, 1], 4: [1, 2], 9: [0, 3]}, 12, 2, 4),
+            ("two cross it, the smaller by its lower net", {2: [0, 1], 4: [0, 2], 9: [1, 3]}, 12, 2, 4),
+            ("pairs (1, 4) and (2, 3)", {1: [0, 1], 2: [3, 4], 3: [4, 5], 4: [1, 2]}, 12, 1, 4),
+            ("pairs (1, 4) and (2, 3), the other nets", {1: [3, 4], 2: [0, 1], 3: [1, 2], 4: [4, 5]}, 12, 1, 4),
+            ("equal, inside, idle and around it between", {3: [0, 1], 4: [0, 1], 5: [1], 6: [], 7: [0, 1, 2], 8: [0, 3]},
+             20, 3, 8),
+            ("one inside it and one around it below", {0: [1], 1: [0, 1, 2], 5: [0, 1], 7: [1, 2]}, 16, 5, 7),
+            ("the last cell of all", {300: [0, 255], 700: [0], 1023: [*range(1, 256)]}, 1024, 300, 1023),
+            ("both bytes of both places", {258: [0, 1], 515: [2, 3], 772: [1, 2]}, 1024, 258, 772)):
+        yield from refused_by_all(label, net_sets_board(sets, size), 10, first, second)
 
 
 # --------------------------------------------------------------------------
@@ -214,15 +247,17 @@ def figures_of_1024():
 def refusals_of_open_drain():
     none = boards.NONE
     line, control = (5, 0, none, 0), (2, 1, none, none)
-    for label, cells, nets, number, place in (
+    for label, cells, nets, *verdict in (
             ("kind 6", [line, (6, 0, none, 0)], 1, 6, 1),
             ("three-state output of an open-drain cell", [line, (3, 0, 0, 0)], 1, 6, 1),
             ("two-state beside open-drain", [line, (4, 0, none, 0)], 1, 8, 0),
             ("17 drivers of both kinds", [line] * 16 + [control, (3, 0, 16, 0)], 1, 9, 0),
             ("sets that cross above an open-drain cell",
-             [line, control, (3, 0, 1, 0), (3, 0, 1, 1), control, (3, 0, 4, 0), (3, 0, 4, 2)], 3, 10, 1),
+             [line, control, (3, 0, 1, 0), (3, 0, 1, 1), control, (3, 0, 4, 0), (3, 0, 4, 2)], 3, 10, 1, 4),
+            ("sets that cross around an open-drain cell",
+             [control, (3, 0, 0, 0), (3, 0, 0, 1), line, control, (3, 0, 4, 0), (3, 0, 4, 2)], 3, 10, 0, 4),
             ("set {0, 1}, net 0 with an open-drain cell", [line, control, (3, 0, 1, 0), (3, 0, 1, 1)], 2, 11, 1)):
-        yield from refused_by_all(label, boards.encode(cells, nets, 2), number, place)
+        yield from refused_by_all(label, boards.encode(cells, nets, 2), *verdict)
 
 
 # --------------------------------------------------------------------------
@@ -272,7 +307,7 @@ def marks_calls(rng, label, file, faults):
 
 
 def accepted_calls(rng, label, file, faults):
-    if document01.verdict(file) != (0, 0):
+    if document01.verdict(file) != (0, 0, 0):
         raise SystemExit("%s: refused %r" % (label, document01.verdict(file)))
     yield case(label, "count", file)
     yield from groups_calls(rng, label, file)
@@ -329,7 +364,7 @@ def damaged_calls(rng, label, file):
 def damaged_boards(rng):
     """(label, file)"""
     for number in list(range(1, 12)) + ["length"]:
-        for i in range(50):
+        for i in range(150 if number == 10 else 50):
             made = boards.damaged(rng, number)
             if made.expected not in (None, document01.verdict(made.file)):
                 raise SystemExit("%s: by its making %r, document01 %r"
@@ -345,7 +380,7 @@ def damaged_boards(rng):
 
 def all_cases(seed):
     rng = random.Random(seed)
-    cases = [*figures_of_e(), *figures_of_limits(), *figures_of_000(),
+    cases = [*figures_of_e(), *figures_of_limits(), *figures_of_000(), *figures_of_crossings(),
              *figures_of_open_drain(), *figures_of_1024(), *refusals_of_open_drain()]
     for label, file, faults in accepted_boards(rng):
         cases += accepted_calls(rng, label, file, faults)

@@ -7,7 +7,7 @@ import random
 import subprocess
 
 import expected
-from expected import ROOT, boards, document01, printed
+from expected import ROOT, boards, document01, is_accepted, printed
 from statuses import refused_board, write
 
 EXAMPLES = os.path.join(ROOT, "examples")
@@ -25,7 +25,7 @@ def examples():
 
 
 def accepted_boards(rng, share):
-    yield from examples()
+    yield from filter(is_accepted, examples())
     yield from (boards.table3(), boards.encode([(4, 0, boards.NONE, 0)], 1, 1), boards.full(random.Random(20), limit=256))
     for _ in range(int(130 * share)):
         yield boards.accepted(rng, rng.choice([1, 2, 3, 7, 8, 9, 16, 17, 30, 40, 60]))
@@ -33,14 +33,8 @@ def accepted_boards(rng, share):
         yield boards.accepted(rng, rng.choice([84, 85, 120, 168, 169, 250]), limit=rng.choice([30, 64, 256]))
 
 
-def crossing_neighbours():
-    """Of three control cells side by side the first crosses both others."""
-    control = (2, 1, boards.NONE, boards.NONE)
-    return boards.encode([control] * 3 + [(3, 0, c, net) for c, nets in enumerate(((0, 1), (1, 2), (0, 3))) for net in nets], 4, 1)
-
-
 def damaged_boards(rng, share):
-    yield crossing_neighbours()
+    yield from (file for file in examples() if not is_accepted(file))
     for number in range(1, 13):
         for _ in range(max(1, int(8 * share))):
             yield refused_board(rng, number)[0]
@@ -72,7 +66,7 @@ def listed(program, listing, file):
 
 
 def check_list(program, listing, file):
-    status = 0 if document01.verdict(file) == (0, 0) else 2
+    status = 0 if is_accepted(file) else 2
     program.expect(status, "list", "-", given=file, out=listed(program, listing, file))
 
 
@@ -97,7 +91,7 @@ def check_accepted(program, rng, file):
 
 def check_refused(program, when, file):
     """number, place, when it is given (as docs/INTERFACE.md has it), what it is about, what to do"""
-    number, place = document01.verdict(file)
+    number, place, _ = document01.verdict(file)
     lines = expected.refusal(file)
     ran = program.expect(2, "check", "-", given=file, refusal=(number, place))
     told = ran.out.decode().splitlines()
@@ -188,7 +182,7 @@ def run(program, rng, share):
             check_simulated(program, rng, file)
     for file in damaged_boards(rng, share):
         check_list(program, listing, file)
-        if document01.verdict(file) != (0, 0):
+        if not is_accepted(file):
             check_refused(program, when, file)
     check_captures(program, rng, share)
     file = largest(rng)

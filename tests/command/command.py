@@ -14,6 +14,7 @@ import time
 
 sys.dont_write_bytecode = True
 import answers
+import crossing
 import fuzz
 import open_drain
 import pages
@@ -27,7 +28,8 @@ def parts(sanitized):
     """Name -> function of program and rng."""
     share = 0.1 if sanitized else 1
     made = {"statuses": lambda p, rng: statuses.run(p, rng, ROOT, 1 if sanitized else 2), "answers": lambda p, rng: answers.run(p, rng, share),
-            "texts": lambda p, rng: texts.run(p, rng, share), "pages": lambda p, rng: pages.run(p, rng, share), "lines": lambda p, rng: open_drain.run(p)}
+            "texts": lambda p, rng: texts.run(p, rng, share), "pages": lambda p, rng: pages.run(p, rng, share), "lines": lambda p, rng: open_drain.run(p),
+            "crossing": lambda p, rng: crossing.run(p)}
     return {**made, "fuzz": fuzz.run} if sanitized else made
 
 

@@ -38,6 +38,10 @@ def printed(lines):
     return "".join(line + "\n" for line in lines).encode("utf-8", "surrogateescape")
 
 
+def is_accepted(file):
+    return document01.verdict(file)[0] == 0
+
+
 # --------------------------------------------------------------------------
 # Answers about an accepted board
 # --------------------------------------------------------------------------
@@ -214,10 +218,20 @@ def about_net(file, place, names):
 
 
 def about_crossing(file, place, names):
-    sets = document01.net_sets(document01.read(file))
-    line = lambda c: "  %s switches %s" % (names.cell(c), ", ".join(map(names.net, sorted(sets[c]))))
-    yield line(place)
-    yield line(min(c for c in sets if c > place and sets[c] & sets[place] and sets[c] - sets[place] and sets[place] - sets[c]))
+    board, other = document01.read(file), document01.verdict(file)[2]
+    sets = document01.net_sets(board)
+    outputs = {(cell.control, cell.net): q for q, cell in enumerate(board.cells) if cell.kind == THREE_STATE}
+
+    def nets(these):
+        for net in sorted(these):
+            on_it = [outputs[c, net] for c in (place, other) if (c, net) in outputs]
+            yield "    %s: %s" % (names.net(net), ", ".join(map(names.cell, on_it)))
+
+    yield "  %s and %s both switch" % (names.cell(place), names.cell(other))
+    yield from nets(sets[place] & sets[other])
+    for c, d in ((place, other), (other, place)):
+        yield "  of the two only %s switches" % names.cell(c)
+        yield from nets(sets[c] - sets[d])
 
 
 def drivers_told(board, net):
@@ -244,5 +258,5 @@ ABOUT = {1: about_length, 2: about_sums, 3: about_header, 4: about_limits, 5: ab
 
 def refusal(file, names=NO_NAMES):
     """The lines that check prints of a refused board, but its second and its last: when it is given and what to do."""
-    number, place = document01.verdict(file)
+    number, place, _ = document01.verdict(file)
     return ["refused %d %d" % (number, place), *ABOUT[number](file, place, names)]

@@ -8,9 +8,10 @@ with each fault; the files of examples/board-i2c; and what docs/OPERATING.md and
 import os
 import re
 
+import shown
 from answers import EXAMPLES
 from cases import C, D, I, T, W
-from expected import NONE, ROOT, boards
+from expected import NONE, boards
 from statuses import read, write
 
 # --------------------------------------------------------------------------
@@ -228,26 +229,9 @@ def check_turns(program):
         program.check(("vector",), idle <= ones and len(pulling) == 12, "vector %d pulls out of turn: %s" % (number, sorted(idle - ones)))
 
 
-def page(name):
-    with open(os.path.join(ROOT, "docs", name), encoding="utf-8") as file:
-        return file.read()
-
-
-def shown_runs(text):
-    """(words of a command, what it prints) for each line `$ ./rigcandle ..` in a page's blocks."""
-    for block in re.findall(r"^```text\n(.*?)^```$", text, re.S | re.M):
-        for words, printed in re.findall(r"^\$ \./rigcandle (.*)\n((?:(?!\$ ).*\n)*)", block, re.M):
-            yield words.split(), printed.encode()
-
-
 def check_operating(program):
-    """What docs/OPERATING.md shows is what the command prints, typed one after the other where examples/ is; and what it says of the report."""
-    runs = list(shown_runs(page("OPERATING.md")))
-    program.check(("docs/OPERATING.md",), len(runs) == 5, "shows %d runs" % len(runs))
-    os.symlink(EXAMPLES, os.path.join(program.folder, "examples"))
-    for words, printed in runs:
-        ran = program.run(*words)
-        program.check(words, ran.out == printed, "printed %r, and docs/OPERATING.md shows %r" % (ran.out, printed))
+    """What docs/OPERATING.md shows is what the command prints; and what it says of the report."""
+    shown.check(program, "docs/OPERATING.md", 5)
     for capture, says in ((example("-held.capture"), b"read <strong>always 0</strong>; wrong in 8 of 12 vectors"),
                           ("never.capture", b"wrong in 1 of 12 vectors, first in vector 3<")):
         ran = program.expect(1, "report", example(".bsin"), capture, "-o", "-")
@@ -256,7 +240,7 @@ def check_operating(program):
 
 def check_uneven(program):
     """The text of docs/FILE.md that refusal 11 names a control cell of, and what the page says that check prints of it."""
-    text, printed = re.search(r"^```text\n(limit 1\n.*?)^```\n\n```text\n(refused 11 .*?)^```$", page("FILE.md"), re.S | re.M).groups()
+    text, printed = re.search(r"^```text\n(limit 1\n.*?)^```\n\n```text\n(refused 11 .*?)^```$", shown.page("docs/FILE.md"), re.S | re.M).groups()
     write(program.folder, "uneven.txt", text.encode())
     write(program.folder, "uneven.bsin", program.expect(2, "make", "uneven.txt", "-", refusal=(11, 0)).out)
     program.expect(2, "check", "uneven.bsin", "--names", "uneven.txt", out=printed.encode())

@@ -235,7 +235,7 @@ def check_tables(root):
 class Expected:
     def __init__(self, file, capture):
         self.file, self.capture = file, capture
-        if document01.verdict(file) != (0, 0):
+        if document01.verdict(file)[0] != 0:
             raise Wrong("the board is refused, so that there is no page of it")
         self.kept = document01.kept(file)
         self.cells, self.nets, self.limit = self.kept.board

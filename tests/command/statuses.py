@@ -205,13 +205,13 @@ def wrong_inputs(program):
 
 
 def refused_board(rng, number):
-    """A board with this refusal, and the place it was made to have."""
+    """A board with this refusal, and the number and place it was made to have."""
     if number == 12:
         return boards.near_limit(rng, True), (12, 0)
     while True:
         made = boards.damaged(rng, number)
         if made.expected is not None:
-            return made.file, made.expected
+            return made.file, made.expected[:2]
 
 
 def refused_boards(program, rng, rounds):

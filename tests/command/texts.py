@@ -9,7 +9,7 @@ import expected
 import wrong_texts
 from answers import examples
 from cases import made as cases_made
-from expected import NONE, ROOT, Names, boards, document01, printed
+from expected import NONE, ROOT, Names, boards, document01, is_accepted, printed
 from statuses import expect_nothing, make_files, read, refused_board, taken, write
 
 
@@ -70,7 +70,7 @@ def shown_boards(rng, share):
 
 
 def status_of(file):
-    return 0 if document01.verdict(file) == (0, 0) else 2
+    return 0 if is_accepted(file) else 2
 
 
 def check_round(program, file):
@@ -212,7 +212,7 @@ def check_names_kept(program, file, status):
 def check_names_told(program, rng, file, names):
     """By the text itself and by what show made of it."""
     text = rng.choice(["named.txt", "shown.txt"])
-    if document01.verdict(file) == (0, 0):
+    if is_accepted(file):
         program.expect(0, "check", "named.bsin", "--names", text, out=printed(expected.accepted(file, names=names)))
         if document01.kept(file).total < 200:
             check_named_marks(program, rng, file, text, names)
@@ -304,10 +304,11 @@ def check_page(program):
 
 
 def check_examples(program):
-    """Each example that has a text is made from it."""
-    for name in ("board-e", "board-bus", "board-i2c"):
+    """Each board is made from its text."""
+    for name in ("board-e", "board-bus", "board-i2c", "board-crossing"):
         path = os.path.join(ROOT, "examples", name)
-        program.expect(0, "make", path + ".txt", "-", out=read(os.path.dirname(path), name + ".bsin"))
+        file = read(os.path.dirname(path), name + ".bsin")
+        program.expect(status_of(file), "make", path + ".txt", "-", out=file)
 
 
 def run(program, rng, share):

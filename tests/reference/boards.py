@@ -10,6 +10,7 @@
     crowded(rng, size)              accepted, hardly anything but drivers on single nets
     near_limit(rng, over)           a board whose vector total is close to 4,096
     damaged(rng, number)            Damaged(label, file, expected)
+    traps(file)                     what is hard about the second place of a crossing
     capture(rng, file, fault)       a capture for an accepted board; FAULTS names the faults
 
     python3 boards.py COUNT SEED    runs COUNT boards of each sort through document01
@@ -30,7 +31,7 @@ import document01
 
 NONE = 65535
 SHARES = (0, 0, 0.2, 0.5, 0.8, 1)
-Damaged = namedtuple("Damaged", "label file expected")  # expected: (number, place) or None
+Damaged = namedtuple("Damaged", "label file expected")  # expected: (number, place, second) or None
 
 
 # --------------------------------------------------------------------------
@@ -481,7 +482,7 @@ def fault_9(rng, d):
 
 def fault_10(rng, d):
     for _ in range(rng.choice([1, 1, 2])):
-        style = rng.randrange(4)
+        style = rng.randrange(5)
         wide = [s for s in d.masks().values() if bin(s).count("1") >= 2
                 and max(d.drivers()[n] for n in bits(s)) < 15]
         if style == 0 and wide and len(free_nets(d)) >= 3:
@@ -503,6 +504,12 @@ def fault_10(rng, d):
             a = rng.randint(1, m - 2)
             b = rng.randint(a + 1, m - 1)
             sets = [new[:b]] * rng.choice([1, 1, 2]) + [new[a:]] * rng.choice([1, 1, 2])
+        elif style == 3:
+            # one that several cross, and several inside it or equal to it
+            a = rng.randint(2, m - 1)
+            part = lambda nets, most: rng.sample(nets, rng.randint(1, most))
+            sets = [new[:a]] + [part(new[:a], a) for _ in range(rng.randint(0, 3))]
+            sets += [part(new[:a], a - 1) + part(new[a:], m - a) for _ in range(rng.randint(2, 4))]
         else:
             sets = [rng.sample(new, rng.randint(1, m)) for _ in range(rng.randint(2, 6))]
         rng.shuffle(sets)
@@ -554,6 +561,23 @@ def crossing_pairs(d):
     controls = sorted(masks)
     return [(c, e) for x, c in enumerate(controls) for e in controls[x + 1:]
             if masks[c] & masks[e] and masks[c] & ~masks[e] and masks[e] & ~masks[c]]
+
+
+TRAPS = ("several cross the first", "one between meets the first and does not cross it",
+         "another pair ends lower", "the second place is above 255")
+
+
+def traps(file):
+    """Those of TRAPS that a file refused 10 has: what a search for its second place
+    may fall for."""
+    _, first, second = document01.board_verdict(file)
+    sets = document01.net_sets(document01.read(file))
+    met = [q for q in sets if q > first and sets[q] & sets[first]]
+    held = [q for q in met if sets[q] <= sets[first] or sets[first] <= sets[q]]
+    lower = [q for q in sets if first < q < second]
+    there = (len(met) - len(held) > 1, any(q < second for q in held),
+             any(document01.cross(sets[c], sets[e]) for c in lower for e in lower), second > 255)
+    return [trap for trap, is_there in zip(TRAPS, there) if is_there]
 
 
 def uneven(d):
@@ -802,8 +826,9 @@ def damaged(rng, number=None, size=None):
         data = bytes(n) if style == 0 else rng.randbytes(n)
         if style == 2:
             data = resealed(data)
-            return Damaged("length %d, sums right" % n, data, (1, 0) if n != 7168 else None)
-        return Damaged("length %d" % n, data, (1, 0) if n != 7168 else (2, 0) if style == 0 else None)
+            return Damaged("length %d, sums right" % n, data, (1, 0, 0) if n != 7168 else None)
+        return Damaged("length %d" % n, data,
+                       (1, 0, 0) if n != 7168 else (2, 0, 0) if style == 0 else None)
 
     stages = {number}
     if rng.random() < 0.5:
@@ -826,22 +851,22 @@ def damaged(rng, number=None, size=None):
     cells, place, net_number = d.arrange(rng)
     nets = d.nets
     if number in (7, 8, 9):
-        expected = number, min(net_number[net] for net in bad[number])
+        expected = number, min(net_number[net] for net in bad[number]), 0
     elif number == 10:
-        expected = 10, min(min(place[c], place[e]) for c, e in bad[10])
+        expected = 10, *min(sorted((place[c], place[e])) for c, e in bad[10])
     elif number == 11:
-        expected = 11, min(place[c] for c in bad[11])
+        expected = 11, min(place[c] for c in bad[11]), 0
     if 6 in stages:
         cells, broken = fault_6(rng, cells, nets)
         if number == 6:
-            expected = 6, min(broken)
+            expected = 6, min(broken), 0
     limit = rng.choice([1, 2, 3, rng.randint(1, nets), 1024])
     file = encode(cells, nets, limit)
     for stage, fault in ((5, fault_5), (4, fault_4), (3, fault_3), (2, fault_2), (1, fault_1)):
         if stage in stages:
             file, at = fault(rng, file)
             if number == stage:
-                expected = stage, at
+                expected = stage, at, 0
     return Damaged("first of " + " ".join(str(s) for s in sorted(stages)), file, expected)
 
 
@@ -1026,7 +1051,7 @@ def main(count, seed):
         if i % 20 == 0:
             size = rng.choice([1008, 1009, 1023, 1024])
         file = accepted(rng, size)
-        assert document01.verdict(file) == (0, 0), (seed, i, document01.verdict(file))
+        assert document01.verdict(file) == (0, 0, 0), (seed, i, document01.verdict(file))
         board = document01.read(file)
         k = document01.kept(file)
         biggest = [max(x) for x in zip(biggest, (len(board.cells), board.nets, len(k.groups), k.total))]
@@ -1062,10 +1087,23 @@ def main(count, seed):
                              lambda: document01.vector(made.file, 1, b"\x55")[0],
                              lambda: document01.marks(made.file, b"", b"")[0]):
                 answer = question()
-                if found != (0, 0):
-                    assert answer == found[0] | found[1] << 8
+                if found != (0, 0, 0):
+                    assert answer == found[0] | found[1] << 8 | found[2] << 24
     print("damaged: %d boards, %d different, verdicts %s, %.1f s"
           % (count, wrong, dict(sorted(seen.items())), time.time() - start))
+
+    start = time.time()
+    seen = collections.Counter()
+    for i in range(count):
+        made = damaged(random.Random("crossing %d %d" % (seed, i)), 10)
+        found = document01.board_verdict(made.file)
+        if made.expected != found:
+            wrong += 1
+            print("DIFFERENT", seed, i, made.label, "expected", made.expected, "found", found)
+        seen.update(traps(made.file))
+    print("crossing: %d boards, %s, %.1f s"
+          % (count, ", ".join("%d where %s" % (seen[trap], trap) for trap in TRAPS), time.time() - start))
+    assert min(seen[trap] for trap in TRAPS) >= count // 50
 
     start = time.time()
     totals = []
@@ -1076,8 +1114,8 @@ def main(count, seed):
         file = near_limit(rng, over, exact)
         board = document01.read(file)
         totals.append(document01.total(board.nets, document01.turns(board), board.limit))
-        assert document01.board_verdict(file) == (0, 0)
-        assert document01.verdict(file) == ((12, 0) if over else (0, 0)), (seed, i)
+        assert document01.board_verdict(file) == (0, 0, 0)
+        assert document01.verdict(file) == ((12, 0, 0) if over else (0, 0, 0)), (seed, i)
         if i < 4:
             assert totals[-1] == (4098 if over else 4096)
         assert (totals[-1] > 4096) == over

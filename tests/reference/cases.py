@@ -1,11 +1,11 @@
 """Verdict cases for a small test program.
 
-    python3 cases.py OUTDIR        about 90 cases
+    python3 cases.py OUTDIR        about 110 cases
     python3 cases.py OUTDIR all    some 40 more
 
 writes OUTDIR/stdin (each case: 2-byte little-endian length, then that many
-bytes of board file), OUTDIR/stdout (one line a case, "NUMBER PLACE") and
-OUTDIR/names (one line a case: what it is, for people).  Every expected
+bytes of board file), OUTDIR/stdout (one line a case, "NUMBER PLACE SECOND")
+and OUTDIR/names (one line a case: what it is, for people).  Every expected
 verdict below is written by hand and compared with document01.board_verdict.
 No board here has over 4,096 vectors, so refusal 12 changes no line.
 """
@@ -77,6 +77,24 @@ def sets(*controls, filler=0):
         cells.append(C(len(places) % 2))
         cells += [T(c, net) for net in s]
     return encode(cells, 1 + max(max(s) for s in controls if s), 2), places
+
+
+def crossed(first, second, *controls, filler=0):
+    """Control cells with these net sets, refused 10 at two of them, which are
+    counted from 0."""
+    file, places = sets(*controls, filler=filler)
+    return file, 10, places[first], places[second]
+
+
+def far(first, second):
+    """Sets {0, 1} and {1, 2} of control cells at these positions, the second
+    being the last; the outputs stand at the lowest positions that are left."""
+    cells = [X()] * second + [C(0)]
+    cells[first] = C()
+    left = (q for q in range(second) if q != first)
+    for output in (T(first, 0), T(first, 1), T(second, 1), T(second, 2)):
+        cells[next(left)] = output
+    return encode(cells, 3, 2), 10, first, second
 
 
 def document_01(case, more):
@@ -193,17 +211,15 @@ def document_01(case, more):
     case("17 drivers on net 2 and crossing sets", encode(cells, 3, 2), 9, 2)
 
     # 10
-    case("sets {0, 1} and {1, 2}", *(lambda f, p: (f, 10, p[0]))(*sets([0, 1], [1, 2], filler=5)))
-    more("sets {1, 2} and {0, 1}, drivers equal",
-         *(lambda f, p: (f, 10, p[1]))(*sets([0], [1, 2], [0, 1], [2])))
+    case("sets {0, 1} and {1, 2}", *crossed(0, 1, [0, 1], [1, 2], filler=5))
+    more("sets {1, 2} and {0, 1}, drivers equal", *crossed(1, 2, [0], [1, 2], [0, 1], [2]))
     case("two crossing pairs, the inner one found first from the end",
-         *(lambda f, p: (f, 10, p[0]))(*sets([0, 1], [3, 4], [4, 5], [1, 2])))
+         *crossed(0, 3, [0, 1], [3, 4], [4, 5], [1, 2]))
     more("one cell crosses two lower ones",
-         *(lambda f, p: (f, 10, p[1]))(*sets([6], [0, 1], [2, 3], [1, 2], [4, 5], [5, 6])))
-    case("unequal drivers below, crossing above",
-         *(lambda f, p: (f, 10, p[2]))(*sets([0, 1], [0], [2, 3], [3, 4])))
+         *crossed(1, 3, [6], [0, 1], [2, 3], [1, 2], [4, 5], [5, 6]))
+    case("unequal drivers below, crossing above", *crossed(2, 3, [0, 1], [0], [2, 3], [3, 4]))
     case("an uneven cell that crosses none is lower than the pair, idle cells around",
-         *(lambda f, p: (f, 10, p[3]))(*sets([], [0, 1, 2], [1], [3, 5], [], [4, 5], [])))
+         *crossed(3, 5, [], [0, 1, 2], [1], [3, 5], [], [4, 5], []))
     more("equal sets, nested sets",
          sets([0, 1, 2, 3], [0, 1], [2, 3], [0, 1, 2, 3], [0], [1], [3], [2])[0], 0, 0)
     case("nested with unequal parts, all drivers 3",
@@ -267,9 +283,9 @@ def open_drain_controls(case, more):
     """Request [3]: 10 and 11 count it as a control cell, 11 as a controlled driver."""
     crossing = [C(), T(1, 0), T(1, 1), C(0), T(4, 1), T(4, 2)]
     case("sets {0, 1} and {1, 2}, an open-drain cell on net 1 below both",
-         encode([D(1)] + crossing, 3, 2), 10, 1)
+         encode([D(1)] + crossing, 3, 2), 10, 1, 4)
     case("the same, with open-drain cells on all nets below, between and above",
-         encode([D(0), C(), T(1, 0), T(1, 1), D(1), C(0), T(5, 1), T(5, 2), D(2)], 3, 2), 10, 1)
+         encode([D(0), C(), T(1, 0), T(1, 1), D(1), C(0), T(5, 1), T(5, 2), D(2)], 3, 2), 10, 1, 5)
     case("nested sets, with open-drain cells for the single nets",
          encode([D(1), C(), T(1, 0), T(1, 1), T(1, 2), C(0), T(5, 0), T(5, 2), D(0), D(2), D(1)],
                 3, 2), 0, 0)
@@ -292,11 +308,55 @@ def open_drain_controls(case, more):
          poke(all_open_drain(64), {512 * 13 + 4 + 6 * 15 + 4: 40}), 9, 40)
 
 
+def both_cells(case, more):
+    """Request [1]: the smallest larger position that crosses the first is named too."""
+    case("the first of the pair at position 0", *crossed(0, 1, [0, 1], [1, 2]))
+    more("pair after pair", *crossed(0, 1, [3, 4], [4, 5], [0, 1], [1, 2]))
+    case("two pairs that overlap", *crossed(0, 2, [0, 1], [3, 4], [1, 2], [4, 5]))
+    case("the inner of two pairs has the lower nets, idle cells above it",
+         *crossed(0, 8, [3, 4], [0, 1], [1, 2], [], [], [], [], [], [4, 5]))
+    case("the pair inside the first ends lower", *crossed(0, 3, [0, 1, 2], [0, 1], [1, 2], [2, 3]))
+
+    # several cross the first
+    case("two cross it, the smaller by the lower net", *crossed(0, 1, [0, 1], [0, 2], [1, 3]))
+    case("two cross it, the smaller by the higher net", *crossed(0, 1, [0, 1], [1, 2], [0, 3]))
+    case("each crosses each", *crossed(0, 1, [0, 1, 2], [2, 3], [1, 3]))
+    case("three cross it, the smallest by its highest net",
+         *crossed(1, 4, [4], [0, 1, 2, 3], [0, 1], [5, 6], [3, 4], [2, 5], [0, 6]))
+    case("two equal sets cross it", *crossed(0, 2, [0, 1], [], [1, 2], [1, 2]))
+    case("two equal sets are crossed", *crossed(0, 2, [0, 1], [0, 1], [1, 2]))
+
+    # others meet it and do not cross it
+    case("one inside it and one around it are lower", *crossed(2, 3, [0], [0, 1, 2], [0, 1], [1, 2]))
+    case("equal, inside and around it, between it and the one that crosses it",
+         *crossed(0, 5, [0, 1], [0, 1], [1], [0], [0, 1, 2], [1, 3]))
+    more("the one around it crosses the same one", *crossed(0, 2, [1, 2], [0, 1, 2, 3], [2, 4]))
+    case("idle control cells and open-drain cells between, two cross it",
+         encode([D(1), C(), T(1, 0), T(1, 1), C(), D(1), C(0), D(0), C(), T(8, 1), T(8, 2), C(),
+                 T(11, 0), T(11, 2)], 3, 2), 10, 1, 8)
+    case("outputs below their control cells, the highest one's first",
+         encode([T(7, 3), T(7, 0), T(6, 2), T(6, 1), T(5, 1), C(), C(0), C(), T(5, 0)], 4, 2),
+         10, 5, 6)
+    wide = [C(), T(0, 0), T(0, 255), C(), T(3, 0), C(), T(5, 64), T(5, 255), C(), T(8, 0), T(8, 128)]
+    case("256 nets, crossed by the last one",
+         encode(wide + [W(net) for net in range(256) if net not in (0, 64, 128, 255)], 256, 2),
+         10, 0, 5)
+
+    # both bytes of each place
+    for first, second in ((0, 1023), (255, 256), (256, 512), (300, 700), (1022, 1023)):
+        case("places %d and %d" % (first, second), *far(first, second))
+
+    # other refusals have no second place, whatever crosses
+    pair = [C(), T(0, 0), T(0, 1), C(), T(3, 1), T(3, 2)]
+    case("crossing sets, and a net without output", encode(pair, 4, 2), 7, 3)
+    more("crossing sets, and a broken record", encode(pair + [I(3)], 3, 2), 6, 6)
+
+
 def made(everything):
     out = []
 
-    def case(name, file, number, place):
-        out.append((name, bytes(file), (number, place)))
+    def case(name, file, number, place, second=0):
+        out.append((name, bytes(file), (number, place, second)))
 
     def more(*parts):
         if everything:
@@ -306,6 +366,7 @@ def made(everything):
     open_drain_records(case, more)
     open_drain_outputs(case, more)
     open_drain_controls(case, more)
+    both_cells(case, more)
     return out
 
 
@@ -317,10 +378,10 @@ def main(folder, everything):
         found = document01.board_verdict(file)
         if found != expected:
             raise SystemExit("%s: by hand %r, document01 %r" % (name, expected, found))
-        if found == (0, 0) and document01.verdict(file) != (0, 0):
+        if found == (0, 0, 0) and document01.verdict(file) != (0, 0, 0):
             raise SystemExit("%s: over 4,096 vectors" % name)
         data += len(file).to_bytes(2, "little") + file
-        lines += "%d %d\n" % found
+        lines += "%d %d %d\n" % found
         names += name + "\n"
     for kind, content in (("stdin", data), ("stdout", lines.encode()), ("names", names.encode())):
         with open(os.path.join(folder, kind), "wb") as out:

@@ -1,11 +1,11 @@
-"""Document 01 ("Exact scope and rules") with request [3] of document 02
-(open-drain outputs) as plain Python, for comparison.
+"""Document 01 ("Exact scope and rules") with requests [1] and [3] of document 02
+(both cells of a crossing, open-drain outputs) as plain Python, for comparison.
 
 Written from the documents' sentences alone (and source 000, sections 2 to 5,
 for the groups; docs/DECISIONS.md for the open points, its first list
-being cited below as "OP n").  Each function carries its sentence; those of
-request [3] stand behind "[3]".  Nothing here is clever; what is slow stays
-slow, except that the vectors and words of one file are kept between calls.
+being cited below as "OP n").  Each function carries its sentence; those of a
+request stand behind "[1]" or "[3]".  Nothing here is clever; what is slow
+stays slow, except that the vectors and words of one file are kept between calls.
 
     python3 document01.py              self-check: the figures of document 01
     python3 document01.py listing <f   the listing program
@@ -259,19 +259,31 @@ def net_sets(board):
     return sets
 
 
+def cross(s, t):
+    # "two control cells' net sets meet and neither holds the other"
+    # "Equal sets hold each other."  OP 6: an empty set meets nothing.
+    return not s.isdisjoint(t) and not s <= t and not t <= s
+
+
 def refusal_10(board):
     # 10: "two control cells' net sets meet and neither holds the other",
     # "lowest position that is the smaller of such a pair"
-    # "Equal sets hold each other."  OP 6: an empty set meets nothing.
     sets = net_sets(board)
     controls = control_cells(board)
     for x, c in enumerate(controls):
         for d in controls[x + 1:]:  # c < d
-            s, t = sets[c], sets[d]
-            meet = not s.isdisjoint(t)
-            if meet and not s <= t and not t <= s:
+            if cross(sets[c], sets[d]):
                 return c
     return None
+
+
+def second_place(board, number, place):
+    # [1] "Return the smallest larger position that crosses it as a second
+    # place; all other refusals return 0 there."
+    if number != 10:
+        return 0
+    sets = net_sets(board)
+    return min(d for d in sets if d > place and cross(sets[place], sets[d]))
 
 
 def degrees(board):
@@ -306,33 +318,33 @@ def refusal_12(board):
 
 
 def board_verdict(file):
-    """(number, place) of refusals 1 to 11; (0, 0) if accepted."""
+    """(number, place, second place) of refusals 1 to 11; (0, 0, 0) if accepted."""
     file = bytes(file)
     for number, check in ((1, refusal_1), (2, refusal_2), (3, refusal_3),
                           (4, refusal_4), (5, refusal_5)):
         place = check(file)
         if place is not None:
-            return number, place
+            return number, place, 0
     board = read(file)
     for number, check in ((6, refusal_6), (7, refusal_7), (8, refusal_8),
                           (9, refusal_9), (10, refusal_10), (11, refusal_11)):
         place = check(board)
         if place is not None:
-            return number, place
-    return 0, 0
+            return number, place, second_place(board, number, place)
+    return 0, 0, 0
 
 
 @functools.lru_cache(maxsize=8)
 def verdict(file):
-    """(number, place) of refusals 1 to 12, which belong to all four questions
-    (OP 1); (0, 0) if accepted."""
-    number, place = board_verdict(file)
-    if number != 0:
-        return number, place
+    """(number, place, second place) of refusals 1 to 12, which belong to all
+    four questions (OP 1); (0, 0, 0) if accepted."""
+    found = board_verdict(file)
+    if found[0] != 0:
+        return found
     place = refusal_12(read(file))
     if place is not None:
-        return 12, place
-    return 0, 0
+        return 12, place, 0
+    return 0, 0, 0
 
 
 # --------------------------------------------------------------------------
@@ -563,7 +575,7 @@ class Kept:
 
 @functools.lru_cache(maxsize=8)
 def kept(file):
-    """For a file with verdict (0, 0)."""
+    """For a file with verdict (0, 0, 0)."""
     return Kept(file)
 
 
@@ -571,10 +583,10 @@ def kept(file):
 # The four questions as C sees them (64 bits and the buffer afterwards)
 # --------------------------------------------------------------------------
 
-def refused(number, place):
-    # "Bits 0-7: the refusal's number"; "8-23 place; 24-39 the second place
-    # (0 until request [1])"
-    return number | place << 8
+def refused(number, place, second=0):
+    # "Bits 0-7: the refusal's number"; "8-23 place; 24-39 the second place"
+    # [1] "so the board check and all four questions report it"
+    return number | place << 8 | second << 24
 
 
 def written(buffer, data):
@@ -585,9 +597,9 @@ def written(buffer, data):
 def groups(file, buffer):
     """-> (bits64, buffer_after)"""
     file, buffer = bytes(file), bytes(buffer)
-    number, place = verdict(file)
-    if number != 0:
-        return refused(number, place), buffer
+    found = verdict(file)
+    if found[0] != 0:
+        return refused(*found), buffer
     k = kept(file)
     # "The groups question writes G rows of R bytes: the bit at a position is
     # 1 for a control cell that is on. ... It returns G."
@@ -600,9 +612,9 @@ def groups(file, buffer):
 def count(file):
     """-> bits64"""
     file = bytes(file)
-    number, place = verdict(file)
-    if number != 0:
-        return refused(number, place)
+    found = verdict(file)
+    if found[0] != 0:
+        return refused(*found)
     k = kept(file)
     # "The count question returns G, p and the total."
     # "8-15 G; 16-23 p; 24-39 total"
@@ -612,9 +624,9 @@ def count(file):
 def vector(file, number, buffer):
     """-> (bits64, buffer_after)"""
     file, buffer = bytes(file), bytes(buffer)
-    refusal, place = verdict(file)
-    if refusal != 0:
-        return refused(refusal, place), buffer
+    found = verdict(file)
+    if found[0] != 0:
+        return refused(*found), buffer
     k = kept(file)
     # 13: "vector number not below the count", place 0
     if not number < k.total:
@@ -628,9 +640,9 @@ def vector(file, number, buffer):
 def marks(file, capture, buffer):
     """-> (bits64, buffer_after)"""
     file, capture, buffer = bytes(file), bytes(capture), bytes(buffer)
-    number, place = verdict(file)
-    if number != 0:
-        return refused(number, place), buffer
+    found = verdict(file)
+    if found[0] != 0:
+        return refused(*found), buffer
     k = kept(file)
     # 14: "capture is not vectors x R bytes", place 0
     if len(capture) != k.total * k.size:
@@ -657,7 +669,7 @@ def listing(file):
     # "For a refusal it prints `refused`, number and place on one line."
     # OP 11: each line ends with a newline.
     file = bytes(file)
-    number, place = verdict(file)
+    number, place, _ = verdict(file)
     if number != 0:
         return b"refused %d %d\n" % (number, place)
     k = kept(file)
@@ -690,7 +702,7 @@ def unpacked(question, bits):
     """The named numbers of a 64-bit answer, for reading by people."""
     number = bits & 255
     if number != 0:
-        return {"refusal": number, "place": bits >> 8 & 65535}
+        return {"refusal": number, "place": bits >> 8 & 65535, "second": bits >> 24 & 65535}
     if question == "groups":
         return {"G": bits >> 8 & 255}
     if question == "count":
@@ -715,7 +727,7 @@ def self_check():
         done.append(name)
 
     e = board_e()
-    same("E accepted", board_verdict(e), (0, 0))
+    same("E accepted", board_verdict(e), (0, 0, 0))
     same("E file size", len(e), 1024)
     same("E groups", group_lists(e), [[3, 5], [0]])
     same("E groups bytes", groups(e, b"\xAA" * 6), (2 << 8, b"\x28\x00\x01\x00\xAA\xAA"))
@@ -753,12 +765,12 @@ def self_check():
 
     cells = cells_e()
     cells[7] = (4, 0, NONE, 0)
-    same("E position 7 on net 0", board_verdict(encode(cells, 3, 2)), (7, 2))
+    same("E position 7 on net 0", board_verdict(encode(cells, 3, 2)), (7, 2, 0))
     same("E position 7 on net 0, listing", listing(encode(cells, 3, 2)), b"refused 7 2\n")
 
     crossing = [(3, 0, 4, 0), (2, 1, NONE, NONE), (3, 0, 1, 1), (3, 0, 1, 2),
                 (2, 1, NONE, NONE), (3, 0, 4, 1)]
-    same("crossing sets {0, 1} and {1, 2}", board_verdict(encode(crossing, 3, 2)), (10, 1))
+    same("crossing sets {0, 1} and {1, 2}", board_verdict(encode(crossing, 3, 2)), (10, 1, 4))
 
     single = encode([(4, 0, NONE, 0)], 1, 1)
     same("one two-state net", unpacked("count", count(single)), {"G": 1, "p": 2, "total": 2})
@@ -771,12 +783,12 @@ def self_check():
             made += [(2, x % 2, NONE, NONE), (3, 0, 2 * x, 0)]
         return encode(made, 1, 1)
 
-    same("16 drivers", board_verdict(drivers(16)), (0, 0))
+    same("16 drivers", board_verdict(drivers(16)), (0, 0, 0))
     same("16 drivers, groups", group_lists(drivers(16)), [[2 * x] for x in range(15, -1, -1)])
-    same("17 drivers", board_verdict(drivers(17)), (9, 0))
+    same("17 drivers", board_verdict(drivers(17)), (9, 0, 0))
 
     t = table3()
-    same("table 3 accepted", board_verdict(t), (0, 0))
+    same("table 3 accepted", board_verdict(t), (0, 0, 0))
     same("table 3 degrees", degrees(read(t)), [3, 3, 3, 3, 2, 2])
     # table 5's output array, columns 26 23 22 20 17 15 12 5 0
     columns = (26, 23, 22, 20, 17, 15, 12, 5, 0)
@@ -788,9 +800,21 @@ def self_check():
     same("table 4", [sorted(c for c, s in net_sets(read(t)).items() if n in s) for n in range(6)],
          [[0, 5, 22], [0, 5, 15], [0, 20, 26], [0, 17, 26], [12, 23], [12, 23]])
 
+    # [1] By hand: position 1 has nets 0 and 1; the set at 4 lies inside, the one
+    # at 6 holds it, those at 10 and 13 cross it.
+    several = encode([(0, 0, NONE, NONE), (2, 1, NONE, NONE), (3, 0, 1, 0), (3, 0, 1, 1),
+                      (2, 1, NONE, NONE), (3, 0, 4, 1), (2, 1, NONE, NONE), (3, 0, 6, 0), (3, 0, 6, 1),
+                      (3, 0, 6, 2), (2, 1, NONE, NONE), (3, 0, 10, 1), (3, 0, 10, 3),
+                      (2, 1, NONE, NONE), (3, 0, 13, 0), (3, 0, 13, 3)], 4, 2)
+    same("two cross it", verdict(several), (10, 1, 10))
+    same("two cross it, asked", (groups(several, b""), count(several), vector(several, 0, b""),
+                                 marks(several, b"", b"")),
+         ((0x0A00010A, b""), 0x0A00010A, (0x0A00010A, b""), (0x0A00010A, b"")))
+    same("two cross it, listing", listing(several), b"refused 10 1\n")
+
     # [3] By hand: an open-drain cell out of its turn is 1 in every row.
     mixed = mixed_line()
-    same("mixed line", board_verdict(mixed), (0, 0))
+    same("mixed line", board_verdict(mixed), (0, 0, 0))
     same("mixed line, groups", group_lists(mixed), [[3], [1], [0]])
     same("mixed line, groups bytes", groups(mixed, bytes(3)), (3 << 8, b"\x08\x02\x01"))
     same("mixed line, listing", listing(mixed),
@@ -829,7 +853,7 @@ def self_check():
     same("14 before 15", marks(e, bytes(13), b""), (14, b""))
     same("15 marks", marks(e, bytes(12), b"\xAA" * 2), (15, b"\xAA" * 2))
     same("15 groups", groups(e, b"\xAA" * 3), (15, b"\xAA" * 3))
-    same("refused, packed", groups(encode(crossing, 3, 2), b"\xAA"), (10 | 1 << 8, b"\xAA"))
+    same("refused, packed", groups(encode(crossing, 3, 2), b"\xAA"), (10 | 1 << 8 | 4 << 24, b"\xAA"))
     return done
 
 

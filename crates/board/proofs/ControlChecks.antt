@@ -2,7 +2,7 @@
 -- control cell's chain is an unequal pair.
 use Prim.Native.Nat.{ℕ, _*_, _+_, _-_, _<_, _≤_}
 use mathlib.Core.Path.{_≡_, refl, sym, _∙_, ap, ap₂}
-use mathlib.Core.Logic.{_⊎_, ⊎-elim}
+use mathlib.Core.Logic.{⊎-elim}
 use mathlib.Core.Bool.{Bool, true, false, not, _&&_}
 use mathlib.Core.List.{List}
 use native.Mathlib.Omega.{arith}
@@ -13,7 +13,7 @@ use Rattle.base.proofs.BoolLaws.{decided, left, right, both, or-left, not-fails
 use Rattle.base.proofs.TestLaws.{any-at, any-member, none-any, Lowest, seek-lowest}
 use Rattle.rules.specs.File.{Board, boardOf, cellsOf, netsOf, netOf}
 use Rattle.rules.specs.Drivers.{controlled, controlFor, isControl, onNet, driverOf, drives, drivers, meets, inside, crosses}
-use Rattle.rules.specs.Refusals.{judge, crossed, unequal, fileChecks, mostNets}
+use Rattle.rules.specs.Refusals.{judge, crossedBy, crossed, unequal, fileChecks, mostNets}
 use Rattle.rules.specs.declared.Verdict.the-variants.{Accepted}
 use Rattle.rules.proofs.NetSetLaws.{drives-driver, meets-net}
 use Rattle.rules.proofs.Shape.{laid, shaped, whole-records}
@@ -26,8 +26,10 @@ use Rattle.chains.specs.Sharing.{partnersOf}
 use Rattle.chains.proofs.Chaining.{keyed-control}
 use Rattle.chains.proofs.Walks.{cell-fits, none-keyed}
 use Rattle.chains.proofs.Brought.{own-net}
-use Rattle.board.specs.Controls.{isCrossing, driversAt, anyOther}
+use Rattle.board.specs.Controls.{isCrossing, pairFrom, driversAt, anyOther}
+use Rattle.board.specs.declared.controls.Crossed.the-variants.{Pair, NoPair}
 use Rattle.board.proofs.Crossings.{parts, crossing-of, crossed-idle}
+use Rattle.board.proofs.PairLaws.{pair-found, pair-none}
 
 -- crossing is: meeting, and neither inside the other
 crossing-by : (x y z : Bool) → isCrossing (relationBy x y z) ≡ (z && not x && not y)
@@ -156,14 +158,19 @@ module _ (file : List ℕ) (ok : judge (fileChecks file) ≡ Accepted) where
             (order j x))
             (order x j)
 
-  pub search-found : (i j : ℕ) → Uncrossed (boardOf file) i j → j < cellsOf file → crosses (boardOf file) i j ≡ true → true ≡ crossed (boardOf file) i
-  unfolding crossed boardOf
-  search-found i j v l t = sym (any-at _ _ l (both (lt-ltb i j (v .higher)) t))
+  -- the search meets one that crosses i, or ends
+  module _ (i j : ℕ) (v : Uncrossed (boardOf file) i j) where
+    lower : (x : ℕ) → x < j → crossedBy (boardOf file) i x ≡ false
+    unfolding crossedBy
+    lower x m = fails-if _ (λ t. clashes (right (ltb i x) t) (v .none x (ltb-true i x (left (ltb i x) _ t)) m))
 
-  pub search-ended : (i j : ℕ) → Uncrossed (boardOf file) i j → cellsOf file ≤ j → false ≡ crossed (boardOf file) i
-  unfolding crossed boardOf
-  search-ended i j v l =
-      sym (none-any _ _ (λ x m. fails-if _ (λ t. clashes (right (ltb i x) t) (v .none x (ltb-true i x (left (ltb i x) _ t)) (omega arith)))))
+    pub search-found : j < cellsOf file → crosses (boardOf file) i j ≡ true → Pair (record { 0 = i }) (record { 0 = j }) ≡ pairFrom (boardOf file) i
+    unfolding crossedBy boardOf
+    search-found l t = pair-found (boardOf file) i j l (both (lt-ltb i j (v .higher)) t) lower
+
+    pub search-ended : cellsOf file ≤ j → NoPair ≡ pairFrom (boardOf file) i
+    unfolding crossed boardOf
+    search-ended l = pair-none (boardOf file) i (none-any _ _ (λ x m. lower x (omega arith)))
 
 -- the driver at c is one of control cell k, and its net has another number of drivers
 abbrev pub other : Board → ℕ → ℕ → ℕ → Bool
@@ -251,6 +258,6 @@ module _ (file t : List ℕ) (ch : Chains file ControlCell t) (j : ℕ) (l : j <
   pub idle-equal : unequal (boardOf file) j ≡ false
   idle-equal = sym (unequal-empty file (ch .checked) j none)
 
-  pub idle-uncrossed : crossed (boardOf file) j ≡ false
+  pub idle-uncrossed : NoPair ≡ pairFrom (boardOf file) j
   unfolding boardOf
-  idle-uncrossed = crossed-idle (boardOf file) j none
+  idle-uncrossed = pair-none (boardOf file) j (crossed-idle (boardOf file) j none)

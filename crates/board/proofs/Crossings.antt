@@ -8,7 +8,7 @@ use Rattle.base.proofs.BoolLaws.{left, right, both, not-fails, fails-not, fails
 use Rattle.base.proofs.TestLaws.{none-any}
 use Rattle.rules.specs.File.{Board}
 use Rattle.rules.specs.Drivers.{isControl, onNet, driverOf, drives, meets, inside, crosses}
-use Rattle.rules.specs.Refusals.{crossed}
+use Rattle.rules.specs.Refusals.{crossedBy, crossed}
 use Rattle.rules.proofs.NetSetLaws.{meets-net, drives-driver}
 use Rattle.chains.specs.Table.{ControlCell}
 use Rattle.chains.specs.Chains.{keyed}
@@ -42,7 +42,7 @@ module _ (b : Board) where
   crossing-of i j c = both (both (both (both (c .first) (c .second)) (c .meet)) (not-fails (c .out))) (not-fails (c .back))
 
   pub crossed-none : (i : ℕ) → ((j : ℕ) → i < j → j < b .size → crosses b i j ≡ true → ⊥) → crossed b i ≡ false
-  unfolding crossed
+  unfolding crossed crossedBy
   crossed-none i h =
       none-any _ _ (λ j m. fails-if _ (λ t. h j (ltb-true i j (left (ltb i j) _ t)) m (right (ltb i j) t)))
 

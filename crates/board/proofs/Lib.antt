@@ -3,6 +3,7 @@ pub mod Clashing
 pub mod NetChecks
 pub mod ControlChecks
 pub mod Crossings
+pub mod PairLaws
 pub mod BearingLaws
 pub mod HeadLaws
 pub mod LevelLaws

@@ -5,7 +5,7 @@ use mathlib.Core.Bool.{false}
 use mathlib.Core.List.{List, [], _∷_, _++_, append-assoc}
 use Rattle.rules.specs.File.{Board, boardOf, cellsOf, brokenAt}
 use Rattle.rules.specs.Drivers.{drivers}
-use Rattle.rules.specs.Refusals.{judge, each, crossed, unequal, shapeChecks, fileChecks, netChecks, controlChecks, earlyChecks, boardChecks}
+use Rattle.rules.specs.Refusals.{judge, each, crossing, crossed, unequal, shapeChecks, fileChecks, netChecks, controlChecks, earlyChecks, boardChecks}
 use Rattle.rules.specs.declared.Verdict.the-variants.{Accepted}
 use Rattle.rules.proofs.Verdicts.{Then, then-append, judge-passes}
 use Rattle.board.specs.Bearing.{Settled}
@@ -28,16 +28,16 @@ module _ (b : Board) where
   pub row-nets : Then (judge (netChecks b)) (judge (controlChecks b)) (judge (netChecks b ++ controlChecks b))
   row-nets = then-append (netChecks b) (controlChecks b)
 
-  pub row-crossed : Then (judge (each 10 (b .size) (crossed b) ∷ [])) (judge (each 11 (b .size) (unequal b) ∷ [])) (judge (controlChecks b))
+  pub row-crossed : Then (judge (crossing b ∷ [])) (judge (each 11 (b .size) (unequal b) ∷ [])) (judge (controlChecks b))
   unfolding controlChecks
-  row-crossed = then-append (each 10 (b .size) (crossed b) ∷ []) (each 11 (b .size) (unequal b) ∷ [])
+  row-crossed = then-append (crossing b ∷ []) (each 11 (b .size) (unequal b) ∷ [])
 
   -- a board that is settled passes both, and one whose control cells do not cross the first
   pub settled-accepted : Settled b (drivers b) → Accepted ≡ judge (controlChecks b)
   unfolding controlChecks judge
   settled-accepted s =
-      sym (judge-passes (each 10 _ _) (each 11 (b .size) (unequal b) ∷ []) (s .uncrossed) ∙ judge-passes (each 11 _ _) [] (settled-equal b s))
+      sym (judge-passes (crossing b) (each 11 (b .size) (unequal b) ∷ []) (s .uncrossed) ∙ judge-passes (each 11 _ _) [] (settled-equal b s))
 
   pub uncrossed-next : ((i : ℕ) → i < b .size → crossed b i ≡ false) → judge (controlChecks b) ≡ judge (each 11 (b .size) (unequal b) ∷ [])
   unfolding controlChecks
-  uncrossed-next none = judge-passes (each 10 _ _) (each 11 (b .size) (unequal b) ∷ []) none
+  uncrossed-next none = judge-passes (crossing b) (each 11 (b .size) (unequal b) ∷ []) none

@@ -6,14 +6,14 @@ ghost use mathlib.Core.List.{_∷_, []};
 ghost use Prim.Native.Nat.{_<_, _*_};
 ghost use Rattle.rules.specs.File.{boardOf, cellsOf};
 ghost use Rattle.rules.specs.Drivers.{controlled};
-ghost use Rattle.rules.specs.Refusals.{judge, each, crossed, unequal, controlChecks};
+ghost use Rattle.rules.specs.Refusals.{judge, each, crossing, unequal, controlChecks};
 ghost use Rattle.words.specs.Sets.{netWords, member, relationOf};
 ghost use Rattle.cells.specs.Whole.{Sized};
 ghost use Rattle.chains.specs.Table.{ControlCell};
 ghost use Rattle.chains.specs.Chains.{Chains};
 ghost use Rattle.chains.specs.Counts.{Counted};
 ghost use Rattle.chains.specs.Filling.{Filled};
-ghost use Rattle.board.specs.Controls.{isCrossing, driversAt, anyOther};
+ghost use Rattle.board.specs.Controls.{isCrossing, pairFrom, lowestPair, driversAt, anyOther};
 use crate::falling::Nesting;
 use crate::falling::tell_falling;
 use crate::nesting::sound_upward;
@@ -30,8 +30,14 @@ use rules::Verdict;
 use words::NetSet;
 use words::Relation;
 
+// What comparing the net sets of control cells finds: two that cross, the smaller position first, or none.
+pub enum Crossed {
+    Pair(Position, Position),
+    NoPair,
+}
+
 // Two net sets meet and neither holds the other.
-fn crossing(a: NetSet, b: NetSet) -> bool
+fn sets_cross(a: NetSet, b: NetSet) -> bool
     ensures { λ r. ⌜ r ≡ isCrossing (relationOf (64 * netWords) (member (a .words)) (member (b .words))) ⌝ }
 {
     let relation = a.compare(b);
@@ -44,43 +50,58 @@ fn crossing(a: NetSet, b: NetSet) -> bool
     }
 }
 
-// Control cell i crosses a higher one: each that shares a net with it is compared. One that switches
-// nothing crosses none.
-fn crosses(file: &[u8], table: &[u16; TABLE], cells: usize, i: Position) -> bool
+// Control cell i's net set is compared with that of each higher one that shares a net with it: the first
+// that crosses it makes the pair. A control cell that switches nothing crosses none.
+fn pair_from(file: &[u8], table: &[u16; TABLE], cells: usize, i: Position) -> Crossed
     requires { ⌜ Filled (now file) (now table) ⌝ }
     requires { ⌜ cells ≡ cellsOf (now file) ⌝ }
     requires { ⌜ i .0 < cells ⌝ }
-    ensures { λ r. ⌜ r ≡ crossed (boardOf (now (file .entry))) (i .0) ⌝ }
+    ensures { λ r. ⌜ r ≡ pairFrom (boardOf (now (file .entry))) (i .0) ⌝ }
 {
     if head(table, i) == 0 {
-        return false;
+        return Crossed::NoPair;
     }
     let mine = nets_of(file, table, i);
     let met = partners(file, table, i);
     let mut j = met.next(i.0 as usize + 1);
     while j < cells {
-        if crossing(mine, nets_of(file, table, Position(j as u16))) {
-            return true;
+        let higher = Position(j as u16);
+        if sets_cross(mine, nets_of(file, table, higher)) {
+            return Crossed::Pair(i, higher);
         }
         j = met.next(j + 1);
     }
-    false
+    Crossed::NoPair
 }
 
-// The lowest control cell that crosses a higher one.
-fn lowest_crossed(file: &[u8], table: &[u16; TABLE], cells: usize) -> Verdict
+// The pair of the lowest control cell that crosses a higher one.
+fn lowest_pair(file: &[u8], table: &[u16; TABLE], cells: usize) -> Crossed
     requires { ⌜ Filled (now file) (now table) ⌝ }
     requires { ⌜ cells ≡ cellsOf (now file) ⌝ }
-    ensures { λ r. ⌜ r ≡ judge (each 10 (cellsOf (now (file .entry))) (crossed (boardOf (now (file .entry)))) ∷ []) ⌝ }
+    ensures { λ r. ⌜ r ≡ lowestPair (boardOf (now (file .entry))) ⌝ }
 {
     let mut i = 0;
     while i < cells {
-        if crosses(file, table, cells, Position(i as u16)) {
-            return rules::refuse(10, i);
-        }
+        let found = pair_from(file, table, cells, Position(i as u16));
+        let Crossed::NoPair = found else {
+            return found;
+        };
         i += 1;
     }
-    Verdict::Accepted
+    Crossed::NoPair
+}
+
+// Refusal 10: the pair that the comparison found.
+fn crossed_verdict(file: &[u8], table: &[u16; TABLE], cells: usize) -> Verdict
+    requires { ⌜ Filled (now file) (now table) ⌝ }
+    requires { ⌜ cells ≡ cellsOf (now file) ⌝ }
+    ensures { λ r. ⌜ r ≡ judge (crossing (boardOf (now (file .entry))) ∷ []) ⌝ }
+{
+    let found = lowest_pair(file, table, cells);
+    match found {
+        Crossed::Pair(i, j) => rules::refuse_pair(10, i, j),
+        Crossed::NoPair => Verdict::Accepted,
+    }
 }
 
 // How many controlled drivers the net of the driver at c has.
@@ -147,7 +168,7 @@ fn search(file: &[u8], table: &[u16; TABLE], cells: usize) -> Verdict
     requires { ⌜ cells ≡ cellsOf (now file) ⌝ }
     ensures { λ r. ⌜ r ≡ judge (controlChecks (boardOf (now (file .entry)))) ⌝ }
 {
-    let crossed = lowest_crossed(file, table, cells);
+    let crossed = crossed_verdict(file, table, cells);
     let Verdict::Accepted = crossed else {
         return crossed;
     };

@@ -1,5 +1,5 @@
 // A test program: reads board files from standard input, each behind its length in two bytes, and
-// writes a line for each with the number and the place of its verdict. stdin and stdout are made by
+// writes a line for each with the number and the two places of its verdict. stdin and stdout are made by
 // tests/reference/cases.py, whose expected verdicts are written by hand from document 01.
 use rules::Refusal;
 use rules::Verdict;
@@ -9,11 +9,13 @@ const MOST_FILES: usize = 1000;
 
 const ROOM: usize = 8192;
 
-// One line: number, space, place.
+// One line: number, place and second place, a space between.
 fn say(refusal: Refusal) {
     io::print_decimal(1, refusal.number as u64);
     io::write_all(1, b" ");
     io::print_decimal(1, refusal.place as u64);
+    io::write_all(1, b" ");
+    io::print_decimal(1, refusal.second as u64);
     io::write_all(1, b"\n");
 }
 

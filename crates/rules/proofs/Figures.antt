@@ -1,4 +1,5 @@
--- Document 01's figures marked P, and one of request [3], as one table with one claim, which antt computes. Boards E and D are files' bytes.
+-- Document 01's figures marked P, and one of each of requests [1] and [3], as one table with one claim, which antt computes. Boards E, D and
+-- X are files' bytes.
 use Prim.Native.Nat.{ℕ, zero, suc, _-_, _/_, _%_}
 use mathlib.Core.Path.{_≡_, refl}
 use mathlib.Core.Bool.{Bool, true, false, cond, xor, _&&_}
@@ -15,6 +16,7 @@ use Rattle.rules.specs.File.{byteAt, numberAt, added, summed, sumsFrom, 
 use Rattle.rules.specs.File.{cellsOf, netsOf, limitOf, recordsIn, cellBlockRight, recordAt, kindAt, onAt, controlAt, netAt, none}
 use Rattle.rules.specs.File.{ofKind2, tableOf, recordOf, brokenAt, kindOf, onValueOf, controlOf, netOf, Board, boardOf}
 use Rattle.rules.specs.declared.Sums.{Sums}
+use Rattle.rules.specs.declared.Verdict.{Verdict}
 use Rattle.rules.specs.declared.Cell.{Cell}
 use Rattle.rules.specs.declared.Cell.the-variants.{Internal, Control, ThreeState}
 use Rattle.rules.specs.Drivers.{driverIn, driverAt, isDriver, controlIn, controlled, controlFor, openDrain, isControl, alwaysOn, isInput}
@@ -23,8 +25,8 @@ use Rattle.rules.specs.Groups.{marked, turn, pass, firstPass, secondPass
 use Rattle.rules.specs.Vectors.{codeWidth, codeBit, widthOf, patternOf, basesOf, differs, changes, insertedAfter, between, stepsOf, vectorOf, planOf, totalOf, vectorAt, cellBit, vectorRow}
 use Rattle.rules.specs.Lines.{switchedOn, actsAs, acts, level}
 use Rattle.rules.specs.Marks.{readAt, ownAt, differsAt, inputOf, unseen, failed, readTwice, rowsOf, firstGiven, markOf, byteOf, marksOf}
-use Rattle.rules.specs.Refusals.{judge, numberOf, placeOf, wrongLength, within, outside, blocksFor, blockWrong}
-use Rattle.rules.specs.Refusals.{undriven, clash, clashing, crowded, crossed, unequal}
+use Rattle.rules.specs.Refusals.{judge, numberOf, placeOf, secondOf, wrongLength, within, outside, blocksFor, blockWrong}
+use Rattle.rules.specs.Refusals.{undriven, clash, clashing, crowded, crossedBy, crossed, crosser, unequal}
 use Rattle.rules.specs.Refusals.{shapeChecks, fileChecks, netChecks, controlChecks, earlyChecks, boardChecks}
 
 -- a number's two bytes
@@ -41,13 +43,16 @@ block bytes =
 record4 : ℕ → ℕ → ℕ → ℕ → List ℕ
 record4 kind on control net = kind ∷ on ∷ two control ++ two net
 
+-- a file of one cell block
+fileOf : ℕ → ℕ → ℕ → List ℕ → List ℕ
+fileOf cells nets limit records =
+    block (two 0 ++ (1 ∷ 0 ∷ 66 ∷ 83 ∷ 73 ∷ 78 ∷ 1 ∷ 0 ∷ []) ++ two cells ++ two nets ++ two limit) ++ block (two 1 ++ (2 ∷ cells ∷ []) ++ records)
+
 -- board E with the given SSOL, as a file
 fileE : ℕ → List ℕ
 fileE limit =
-    block (two 0 ++ (1 ∷ 0 ∷ 66 ∷ 83 ∷ 73 ∷ 78 ∷ 1 ∷ 0 ∷ []) ++ two 11 ++ two 3 ++ two limit) ++
-    block
-    (two 1 ++ (2 ∷ 11 ∷ []) ++
-    record4 2 1 none none ++
+    fileOf 11 3 limit
+    (record4 2 1 none none ++
     record4 3 0 0 0 ++
     record4 3 0 0 1 ++
     record4 2 0 none none ++
@@ -70,10 +75,8 @@ boardE = boardOf (fileE 2)
 -- board D, one net: control cell 0 switches the three-state output 1; 2 and 3 are open-drain outputs, 4 is an input
 fileD : List ℕ
 fileD =
-    block (two 0 ++ (1 ∷ 0 ∷ 66 ∷ 83 ∷ 73 ∷ 78 ∷ 1 ∷ 0 ∷ []) ++ two 5 ++ two 1 ++ two 1) ++
-    block
-    (two 1 ++ (2 ∷ 5 ∷ []) ++
-    record4 2 1 none none ++
+    fileOf 5 1 1
+    (record4 2 1 none none ++
     record4 3 0 0 0 ++
     record4 5 0 none 0 ++
     record4 5 0 none 0 ++
@@ -81,6 +84,23 @@ fileD =
 
 boardD : Board
 boardD = boardOf fileD
+
+-- board X: control cell 1 has nets 0 and 1; 4, with net 1, lies inside it; 6, with nets 1 and 2, and 9, with nets 0 and 3, cross it
+fileX : List ℕ
+fileX =
+    fileOf 12 4 1
+    (record4 1 0 none 0 ++
+    record4 2 1 none none ++
+    record4 3 0 1 0 ++
+    record4 3 0 1 1 ++
+    record4 2 1 none none ++
+    record4 3 0 4 1 ++
+    record4 2 1 none none ++
+    record4 3 0 6 1 ++
+    record4 3 0 6 2 ++
+    record4 2 1 none none ++
+    record4 3 0 9 0 ++
+    record4 3 0 9 3)
 
 abbrev switched : ℕ → ℕ → Cell
 switched control net = ThreeState (record { 0 = control }) (record { 0 = net })
@@ -110,7 +130,9 @@ digits : ℕ → (ℕ → Bool) → List ℕ
 digits n f = table n (λ m. cond (f m) 1 0)
 
 verdictOn : List ℕ → List ℕ
-verdictOn file = numberOf (judge (boardChecks file)) ∷ placeOf (judge (boardChecks file)) ∷ []
+verdictOn file =
+    let verdict : Verdict = judge (boardChecks file) in
+    numberOf verdict ∷ placeOf verdict ∷ secondOf verdict ∷ []
 
 -- each of the first n vectors of a board: its group and its row
 listing : Board → ℕ → List ℕ
@@ -127,8 +149,8 @@ levelD row = cond (level boardD (row ∷ []) 0) 1 0
 figures : List Figure
 figures =
     -- E is accepted, with SSOL 2 and with SSOL 1
-    figure (0 ∷ 0 ∷ []) (verdictOn (fileE 2)) ∷
-    figure (0 ∷ 0 ∷ []) (verdictOn (fileE 1)) ∷
+    figure (0 ∷ 0 ∷ 0 ∷ []) (verdictOn (fileE 2)) ∷
+    figure (0 ∷ 0 ∷ 0 ∷ []) (verdictOn (fileE 1)) ∷
     -- E's groups are {3, 5} and {0}
     figure (3 ∷ 5 ∷ []) (members 11 (onIn boardE 1)) ∷
     figure (0 ∷ []) (members 11 (onIn boardE 2)) ∷
@@ -153,7 +175,7 @@ figures =
     (1 ∷ 0x20 ∷ 0x00 ∷ 1 ∷ 0xE4 ∷ 0x00 ∷ 1 ∷ 0xB2 ∷ 0x00 ∷ 2 ∷ 0x09 ∷ 0x00 ∷ 2 ∷ 0xCD ∷ 0x00 ∷ 2 ∷ 0x9B ∷ 0x00 ∷ [])
     (listing boardE (totalOf boardE)) ∷
     -- D is accepted; its groups are {3}, {2} and {0}; and an open-drain output off its turn is loaded with 1
-    figure (0 ∷ 0 ∷ []) (verdictOn fileD) ∷
+    figure (0 ∷ 0 ∷ 0 ∷ []) (verdictOn fileD) ∷
     figure (3 ∷ []) (members 5 (onIn boardD 1)) ∷
     figure (2 ∷ []) (members 5 (onIn boardD 2)) ∷
     figure (0 ∷ []) (members 5 (onIn boardD 3)) ∷
@@ -162,6 +184,8 @@ figures =
     (listing boardD (totalOf boardD)) ∷
     -- its line is low in each group's first vector and high in the second; it is low too where a cell pulls out of its turn
     figure (0 ∷ 1 ∷ 0 ∷ 1 ∷ 0 ∷ 1 ∷ 0 ∷ []) (map levelD (0x04 ∷ 0x0E ∷ 0x08 ∷ 0x0E ∷ 0x0D ∷ 0x0F ∷ 0x0B ∷ [])) ∷
+    -- X is refused for 1 and 6, the smallest larger position that crosses it
+    figure (10 ∷ 1 ∷ 6 ∷ []) (verdictOn fileX) ∷
     []
 
 same : List ℕ → List ℕ → Bool
@@ -177,7 +201,7 @@ right (f ∷ fs) = same (f .said) (f .computed) && right fs
 
 claim : right figures ≡ true
 unfolding
-    right same listing levelD lopsided boardL boardD fileD figures figure capture digits verdictOn zeroSums members boardE fileE block record4 two
+    right same listing levelD lopsided boardL boardD fileD fileX fileOf figures figure capture digits verdictOn zeroSums members boardE fileE block record4 two
     any all largest seek least count among table has ceil bit word weave xor
     byteAt numberAt added sumsFrom sumsOf blocksIn blockAt sumsRight zeros headRight headerRight
     cellsOf netsOf limitOf recordsIn cellBlockRight recordAt kindAt onAt controlAt netAt
@@ -188,7 +212,7 @@ unfolding
     codeWidth codeBit widthOf patternOf basesOf differs changes insertedAfter between stepsOf vectorOf
     planOf totalOf vectorAt cellBit vectorRow switchedOn actsAs acts level rowBytes rowByte rowOf rowBit
     readAt ownAt differsAt inputOf unseen failed readTwice rowsOf firstGiven markOf byteOf marksOf
-    judge numberOf placeOf wrongLength within outside blocksFor blockWrong
-    undriven clash clashing crowded crossed unequal
+    judge numberOf placeOf secondOf wrongLength within outside blocksFor blockWrong
+    undriven clash clashing crowded crossedBy crossed crosser unequal
     shapeChecks fileChecks netChecks controlChecks earlyChecks boardChecks
 claim = refl

@@ -19,5 +19,6 @@ pub mod LinesDriven
 pub mod OpenDrains
 pub mod Requirement
 pub mod Outcomes
+pub mod Pairs
 pub mod Figures
 pub mod RowLaws

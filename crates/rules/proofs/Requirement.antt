@@ -14,7 +14,7 @@ use Rattle.base.proofs.BoolLaws.{Decided, decided, order, left, right, both, no
 use Rattle.base.proofs.TestLaws.{any-member, any-none, none-any}
 use Rattle.rules.specs.File.{Board, boardOf}
 use Rattle.rules.specs.Drivers.{isControl, drives, drivers, outputs, meets, inside, crosses}
-use Rattle.rules.specs.Refusals.{judge, numberOf, crossed, unequal, controlChecks, earlyChecks, boardChecks}
+use Rattle.rules.specs.Refusals.{judge, numberOf, crossedBy, crossed, unequal, controlChecks, earlyChecks, boardChecks}
 use Rattle.rules.specs.declared.Refusal.{Refusal}
 use Rattle.rules.specs.declared.Verdict.{Verdict}
 use Rattle.rules.specs.declared.Verdict.the-variants.{Accepted, Refused}
@@ -51,7 +51,7 @@ apart-or-nested b i j x y h = go (decided (meets b i j)) (decided (inside b i j)
 
 -- the two checks pass: the requirement holds
 holds : (b : Board) → Early b → AllPass (controlChecks b) → Requirement b
-unfolding controlChecks crossed unequal
+unfolding controlChecks crossed crossedBy unequal
 holds b e h = record { nested = nested; equal = equal }
   where
     below : (i j : ℕ) → i < j → i < b .size → j < b .size → crosses b i j ≡ false
@@ -81,7 +81,7 @@ holds b e h = record { nested = nested; equal = equal }
 
 -- the requirement holds: the two checks pass
 passes : (b : Board) → Early b → Requirement b → AllPass (controlChecks b)
-unfolding controlChecks crossed unequal crosses
+unfolding controlChecks crossed crossedBy unequal crosses
 passes b e r = (λ i l. none-any _ _ (λ j m. fails-if _ (uncrossed i j l m)), (λ k l. fails-if _ (unequalled k l), tt))
   where
     uncrossed : (i j : ℕ) → i < b .size → j < b .size → (ltb i j && crosses b i j) ≡ true → ⊥

@@ -3,14 +3,17 @@
 use Prim.Native.Nat.{ℕ, _<_, _≤_}
 use mathlib.Core.Path.{_≡_, refl, sym, _∙_, ap}
 use mathlib.Core.Logic.{_⊎_, inl, inr, ⊎-elim}
-use mathlib.Core.Bool.{Bool, true, false}
+use mathlib.Core.Bool.{Bool, true, false, cond}
 use mathlib.Core.List.{List, [], _∷_, _++_}
 use native.Mathlib.Omega.{arith}
 use borrow.Author.Tests.{lt-ltb, le-ltb}
+use lib.Dec.{eqb}
 use Rattle.base.specs.Tests.{least}
 use Rattle.base.proofs.BoolLaws.{order}
 use Rattle.base.proofs.TestLaws.{Lowest, least-lowest, least-at, least-none}
-use Rattle.rules.specs.Refusals.{Check, each, judge, numbered, shapeChecks, fileChecks, netChecks, controlChecks, earlyChecks, boardChecks, countChecks, groupsChecks, vectorChecks, marksChecks}
+use Rattle.rules.specs.File.{Board, boardOf}
+use Rattle.rules.specs.Refusals.{Check, judge, paired, numbered, each, crosser, shapeChecks, fileChecks, netChecks, controlChecks, earlyChecks, boardChecks}
+use Rattle.rules.specs.Refusals.{countChecks, groupsChecks, vectorChecks, marksChecks}
 use Rattle.rules.specs.declared.Refusal.{Refusal}
 use Rattle.rules.specs.declared.Verdict.{Verdict}
 use Rattle.rules.specs.declared.Verdict.the-variants.{Accepted, Refused}
@@ -112,45 +115,55 @@ judge-then (check ∷ checks) ys =
 pub judge-append : (xs ys : List Check) → judge xs ≡ Accepted → judge (xs ++ ys) ≡ judge ys
 judge-append xs ys e = judge-then xs ys ∙ ap (λ (v : Verdict). andThen v (judge ys)) e
 
+pub judge-refused : (xs ys : List Check) {r : Refusal} → judge xs ≡ Refused r → judge (xs ++ ys) ≡ Refused r
+judge-refused xs ys e = judge-then xs ys ∙ ap (λ (v : Verdict). andThen v (judge ys)) e
+
 pub append-pass : (xs ys : List Check) → AllPass (xs ++ ys) → AllPass xs × AllPass ys
 append-pass [] ys h = (tt, h)
 append-pass (check ∷ checks) ys h = let r = append-pass checks ys (h .1) in ((h .0, r .0), r .1)
 
--- "Checked in ascending order": each check of a list says its own number, the place at which it applies, and no second place
-abbrev pub Numbered : List Check → List ℕ → Type 0
-Numbered [] [] = Unit
-Numbered [] (number ∷ numbers) = ⊥
-Numbered (check ∷ checks) [] = ⊥
-Numbered (check ∷ checks) (number ∷ numbers) = ((place : ℕ) → check .says place ≡ numbered number place) × Numbered checks numbers
+-- a number's second place: "the smallest larger position that crosses it" for 10, "all other refusals return 0 there"
+abbrev pub secondFor : Board → ℕ → ℕ → ℕ
+secondFor b number place = cond (eqb number 10) (crosser b place) 0
+
+-- "Checked in ascending order": each check of a list says its own number, the place at which it applies, and that number's second place
+abbrev pub Numbered : Board → List Check → List ℕ → Type 0
+Numbered b [] [] = Unit
+Numbered b [] (number ∷ numbers) = ⊥
+Numbered b (check ∷ checks) [] = ⊥
+Numbered b (check ∷ checks) (number ∷ numbers) =
+    ((place : ℕ) → check .says place ≡ paired number place (secondFor b number place)) × Numbered b checks numbers
 
 -- the numbers of all four questions' checks, before their own
 abbrev pub countNumbers : List ℕ
 countNumbers = 1 ∷ 2 ∷ 3 ∷ 4 ∷ 5 ∷ 6 ∷ 7 ∷ 8 ∷ 9 ∷ 10 ∷ 11 ∷ 12 ∷ []
 
-pub count-numbers : (file : List ℕ) → Numbered (countChecks file) countNumbers
+pub count-numbers : (file : List ℕ) → Numbered (boardOf file) (countChecks file) countNumbers
 unfolding countChecks boardChecks earlyChecks shapeChecks fileChecks netChecks controlChecks
-count-numbers file = (one, (one, (one, (one, (one, (one, (one, (one, (one, (one, (one, (one, tt))))))))))))
+count-numbers file = (one, (one, (one, (one, (one, (one, (one, (one, (one, (λ place. refl, (one, (one, tt))))))))))))
   where
     one : {number : ℕ} (place : ℕ) → numbered number place ≡ numbered number place
     one place = refl
 
-pub numbered-append : (xs ys : List Check) (ns ms : List ℕ) → Numbered xs ns → Numbered ys ms → Numbered (xs ++ ys) (ns ++ ms)
-numbered-append [] ys [] ms h g = g
-numbered-append [] ys (n ∷ ns) ms h g = absurd h
-numbered-append (x ∷ xs) ys [] ms h g = absurd h
-numbered-append (x ∷ xs) ys (n ∷ ns) ms h g = (h .0, numbered-append xs ys ns ms (h .1) g)
+pub numbered-append : (b : Board) (xs ys : List Check) (ns ms : List ℕ) → Numbered b xs ns → Numbered b ys ms → Numbered b (xs ++ ys) (ns ++ ms)
+numbered-append b [] ys [] ms h g = g
+numbered-append b [] ys (n ∷ ns) ms h g = absurd h
+numbered-append b (x ∷ xs) ys [] ms h g = absurd h
+numbered-append b (x ∷ xs) ys (n ∷ ns) ms h g = (h .0, numbered-append b xs ys ns ms (h .1) g)
 
-pub groups-numbers : (file buffer : List ℕ) → Numbered (groupsChecks file buffer) (countNumbers ++ (15 ∷ []))
+pub groups-numbers : (file buffer : List ℕ) → Numbered (boardOf file) (groupsChecks file buffer) (countNumbers ++ (15 ∷ []))
 unfolding groupsChecks
-groups-numbers file buffer = numbered-append (countChecks file) _ countNumbers (15 ∷ []) (count-numbers file) (λ place. refl, tt)
+groups-numbers file buffer = numbered-append _ (countChecks file) _ countNumbers (15 ∷ []) (count-numbers file) (λ place. refl, tt)
 
-pub vector-numbers : (file : List ℕ) (number : ℕ) (buffer : List ℕ) → Numbered (vectorChecks file number buffer) (countNumbers ++ (13 ∷ 15 ∷ []))
+pub vector-numbers : (file : List ℕ) (number : ℕ) (buffer : List ℕ) → Numbered (boardOf file) (vectorChecks file number buffer) (countNumbers ++ (13 ∷ 15 ∷ []))
 unfolding vectorChecks
-vector-numbers file number buffer = numbered-append (countChecks file) _ countNumbers (13 ∷ 15 ∷ []) (count-numbers file) (λ place. refl, (λ place. refl, tt))
+vector-numbers file number buffer =
+    numbered-append _ (countChecks file) _ countNumbers (13 ∷ 15 ∷ []) (count-numbers file) (λ place. refl, (λ place. refl, tt))
 
-pub marks-numbers : (file capture buffer : List ℕ) → Numbered (marksChecks file capture buffer) (countNumbers ++ (14 ∷ 15 ∷ []))
+pub marks-numbers : (file capture buffer : List ℕ) → Numbered (boardOf file) (marksChecks file capture buffer) (countNumbers ++ (14 ∷ 15 ∷ []))
 unfolding marksChecks
-marks-numbers file capture buffer = numbered-append (countChecks file) _ countNumbers (14 ∷ 15 ∷ []) (count-numbers file) (λ place. refl, (λ place. refl, tt))
+marks-numbers file capture buffer =
+    numbered-append _ (countChecks file) _ countNumbers (14 ∷ 15 ∷ []) (count-numbers file) (λ place. refl, (λ place. refl, tt))
 
 -- checks that agree at each of their places judge alike
 pub judge-same : (number places : ℕ) (f g : ℕ → Bool) → ((i : ℕ) → i < places → f i ≡ g i) → judge (each number places f ∷ []) ≡ judge (each number places g ∷ [])

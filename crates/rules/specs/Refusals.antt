@@ -46,9 +46,13 @@ pub record Check : Type 0 where
   pub fails : ℕ → Bool
   pub says : ℕ → Refusal
 
--- "A refusal returns number and place": the number is the row's, the place the one at which it applies; no row names a second place
+-- "A refusal returns number and place", and since request [1] a second place
+abbrev pub paired : ℕ → ℕ → ℕ → Refusal
+paired number place second = record { number = number; place = place; second = second }
+
+-- what every row but 10 says: its number, the place at which it applies, and no second place ("all other refusals return 0 there")
 abbrev pub numbered : ℕ → ℕ → Refusal
-numbered number place = record { number = number; place = place; second = 0 }
+numbered number place = paired number place 0
 
 abbrev pub refuse : ℕ → ℕ → Verdict
 refuse number place = Refused (numbered number place)
@@ -110,9 +114,17 @@ clashing b n = any (b .size) (λ c. any (b .size) (clash b n c))
 unfoldable pub crowded : Board → ℕ → Bool
 crowded b n = ltb mostDrivers (drivers b n)
 
--- 10: "lowest position that is the smaller of such a pair"; request [3]: "10 and 11 as a control cell"
+-- 10: i and j are "such a pair", and i "the smaller"; request [3]: "10 and 11 as a control cell"
+unfoldable pub crossedBy : Board → ℕ → ℕ → Bool
+crossedBy b i j = ltb i j && crosses b i j
+
+-- "lowest position that is the smaller of such a pair"
 unfoldable pub crossed : Board → ℕ → Bool
-crossed b i = any (b .size) (λ j. ltb i j && crosses b i j)
+crossed b i = any (b .size) (crossedBy b i)
+
+-- request [1]: "the smallest larger position that crosses it"
+unfoldable pub crosser : Board → ℕ → ℕ
+crosser b i = least (b .size) (crossedBy b i)
 
 -- 11: "a control cell's nets differ in number of controlled drivers"
 unfoldable pub unequal : Board → ℕ → Bool
@@ -126,6 +138,10 @@ once number fails = record { places = 1; fails = λ place. fails; says = numbere
 -- a check that looks at each of so many places
 abbrev pub each : ℕ → ℕ → (ℕ → Bool) → Check
 each number places fails = record { places = places; fails = fails; says = numbered number }
+
+-- 10 says what it finds "as a second place" (request [1])
+abbrev pub crossing : Board → Check
+crossing b = record { places = b .size; fails = crossed b; says = λ place. paired 10 place (crosser b place) }
 
 -- refusals 1 to 5: the file's blocks
 unfoldable pub shapeChecks : List ℕ → List Check
@@ -152,7 +168,7 @@ netChecks b =
 -- refusals 10 and 11: the control cells
 unfoldable pub controlChecks : Board → List Check
 controlChecks b =
-    each 10 (b .size) (crossed b) ∷
+    crossing b ∷
     each 11 (b .size) (unequal b) ∷
     []
 

@@ -4,7 +4,8 @@ ghost use mathlib.Core.Path.{_≡_};
 ghost use mathlib.Core.List.{[], _∷_};
 ghost use Prim.Native.Nat.{_≤_};
 ghost use Rattle.rules.specs.File.{mostNumber};
-ghost use Rattle.rules.specs.Refusals.{judge, once, refuse};
+ghost use Rattle.rules.specs.Refusals.{judge, once, refuse, paired};
+ghost use Rattle.rules.specs.declared.Verdict.the-variants.{Refused};
 
 // The limits and the file's measures, each said here once; every other crate derives its own from these.
 // "Blocks of 512 bytes", the first 508 of them summed.
@@ -82,7 +83,7 @@ pub struct Sums {
     pub b: u16,
 }
 
-// A numbered refusal with its two places; the second is 0 until a refusal names one.
+// A numbered refusal with its two places; the second is 0 where the refusal names one alone.
 pub struct Refusal {
     pub number: u8,
     pub place: u16,
@@ -109,7 +110,7 @@ pub enum Mark {
     ReadTwice,
 }
 
-// A refusal at a place.
+// A refusal at one place.
 pub fn refuse(number: u8, place: usize) -> Verdict
     requires { ⌜ place ≤ mostNumber ⌝ }
     ensures { λ r. ⌜ r ≡ refuse number place ⌝ }
@@ -118,6 +119,17 @@ pub fn refuse(number: u8, place: usize) -> Verdict
         number,
         place: place as u16,
         second: 0,
+    })
+}
+
+// A refusal of two cells.
+pub fn refuse_pair(number: u8, place: Position, second: Position) -> Verdict
+    ensures { λ r. ⌜ r ≡ Refused (paired number (place .0) (second .0)) ⌝ }
+{
+    Verdict::Refused(Refusal {
+        number,
+        place: place.0,
+        second: second.0,
     })
 }
 

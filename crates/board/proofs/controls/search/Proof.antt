@@ -10,14 +10,14 @@ returns : tie.Need-returns
 unfolding boardOf
 returns c =
     let x = c .before .before in
-    stopped (row-crossed _) (x .lowest-crossed .ensures) (c .enum-told2 .given .1)
+    stopped (row-crossed _) (x .crossed-verdict .ensures) (c .enum-told2 .given .1)
 
 returns-2 : tie.Need-returns-2
 unfolding boardOf
 returns-2 c =
     let told = c .before in
     let x = told .before .before in
-    passed (row-crossed _) (x .lowest-crossed .ensures) (told .enum-told .given .1) (c .unequal-verdict .ensures)
+    passed (row-crossed _) (x .crossed-verdict .ensures) (told .enum-told .given .1) (c .unequal-verdict .ensures)
 
 pub search-spec : {M : Type 1} → statement M
 search-spec =

@@ -1,8 +1,8 @@
 -- The definition, case by case.
 use borrow.Author.Needs.{needs}
 use Rattle.board.specs.Controls.{isCrossing}
-use Rattle.board.proofs.controls.crossing.Statement.{statement}
-use Rattle.board.proofs.controls.crossing.Tie as tie
+use Rattle.board.proofs.controls.sets_cross.Statement.{statement}
+use Rattle.board.proofs.controls.sets_cross.Tie as tie
 
 returns : tie.Need-returns
 unfolding isCrossing
@@ -24,7 +24,7 @@ returns-5 : tie.Need-returns-5
 unfolding isCrossing
 returns-5 c = rw (← c .before .before .compare .ensures, c .enum-told5 .given .1)
 
-pub crossing-spec : {M : Type 1} → statement M
-crossing-spec =
+pub sets-cross-spec : {M : Type 1} → statement M
+sets-cross-spec =
     tie.close
     (tie.spec (λ c κs. search needs) (λ c. search needs) (λ c. search needs) (λ c. search needs) (λ c. search needs) (λ c. search needs) returns returns-2 returns-3 returns-4 returns-5)
