@@ -6,16 +6,17 @@ use mathlib.Core.Logic.{⊎-elim}
 use mathlib.Core.Bool.{Bool, true, false, not, _&&_}
 use mathlib.Core.List.{List}
 use native.Mathlib.Omega.{arith}
-use borrow.Author.Tests.{eqb-true, eqb-false, eq-eqb, ne-eqb, lt-ltb, ltb-true}
-use lib.Dec.{eqb, ltb}
+use borrow.Author.Tests.{eqb-true, eqb-false, eq-eqb, ne-eqb, lt-ltb}
+use lib.Dec.{eqb}
 use Rattle.base.specs.Tests.{any, seek}
 use Rattle.base.proofs.BoolLaws.{decided, left, right, both, or-left, not-fails, fails-not, clashes, fails-if, order, same-test}
-use Rattle.base.proofs.TestLaws.{any-at, any-member, none-any, Lowest, seek-lowest}
+use Rattle.base.proofs.TestLaws.{any-at, any-member, Lowest, seek-lowest}
 use Rattle.rules.specs.File.{Board, boardOf, cellsOf, netsOf, netOf}
 use Rattle.rules.specs.Drivers.{controlled, controlFor, isControl, onNet, driverOf, drives, drivers, meets, inside, crosses}
-use Rattle.rules.specs.Refusals.{judge, crossedBy, crossed, unequal, fileChecks, mostNets}
+use Rattle.rules.specs.Refusals.{judge, crossedBy, unequal, fileChecks, mostNets}
 use Rattle.rules.specs.declared.Verdict.the-variants.{Accepted}
 use Rattle.rules.proofs.NetSetLaws.{drives-driver, meets-net}
+use Rattle.rules.proofs.CrossingLaws.{parts, crossing-of, crossed-by, by-crossing, crossed-none}
 use Rattle.rules.proofs.Shape.{laid, shaped, whole-records}
 use Rattle.rules.proofs.DriverLaws.{kept-control, kept-net}
 use Rattle.words.specs.Sets.{netWords, cellWords, meetsIn, insideIn, relationBy, relationOf}
@@ -28,7 +29,7 @@ use Rattle.chains.proofs.Walks.{cell-fits, none-keyed}
 use Rattle.chains.proofs.Brought.{own-net}
 use Rattle.board.specs.Controls.{isCrossing, pairFrom, driversAt, anyOther}
 use Rattle.board.specs.declared.controls.Crossed.the-variants.{Pair, NoPair}
-use Rattle.board.proofs.Crossings.{parts, crossing-of, crossed-idle}
+use Rattle.board.proofs.Crossings.{crossed-idle}
 use Rattle.board.proofs.PairLaws.{pair-found, pair-none}
 
 -- crossing is: meeting, and neither inside the other
@@ -161,16 +162,15 @@ module _ (file : List ℕ) (ok : judge (fileChecks file) ≡ Accepted) where
   -- the search meets one that crosses i, or ends
   module _ (i j : ℕ) (v : Uncrossed (boardOf file) i j) where
     lower : (x : ℕ) → x < j → crossedBy (boardOf file) i x ≡ false
-    unfolding crossedBy
-    lower x m = fails-if _ (λ t. clashes (right (ltb i x) t) (v .none x (ltb-true i x (left (ltb i x) _ t)) m))
+    lower x m = fails-if _ (λ t. let c = crossed-by (boardOf file) i x t in clashes (c .1) (v .none x (c .0) m))
 
     pub search-found : j < cellsOf file → crosses (boardOf file) i j ≡ true → Pair (record { 0 = i }) (record { 0 = j }) ≡ pairFrom (boardOf file) i
-    unfolding crossedBy boardOf
-    search-found l t = pair-found (boardOf file) i j l (both (lt-ltb i j (v .higher)) t) lower
+    unfolding boardOf
+    search-found l t = pair-found (boardOf file) i j l (by-crossing (boardOf file) i j (v .higher) t) lower
 
     pub search-ended : cellsOf file ≤ j → NoPair ≡ pairFrom (boardOf file) i
-    unfolding crossed boardOf
-    search-ended l = pair-none (boardOf file) i (none-any _ _ (λ x m. lower x (omega arith)))
+    unfolding boardOf
+    search-ended l = pair-none (boardOf file) i (crossed-none (boardOf file) i (λ x u m t. clashes t (v .none x u (omega arith))))
 
 -- the driver at c is one of control cell k, and its net has another number of drivers
 abbrev pub other : Board → ℕ → ℕ → ℕ → Bool

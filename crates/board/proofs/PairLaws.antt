@@ -6,17 +6,16 @@ use mathlib.Core.Logic.{⊎-elim}
 use mathlib.Core.Bool.{Bool, true, false, cond}
 use mathlib.Core.List.{[], _∷_}
 use native.Mathlib.Omega.{arith}
-use borrow.Author.Tests.{ltb-true}
-use lib.Dec.{ltb}
 use Rattle.base.specs.Tests.{least}
-use Rattle.base.proofs.BoolLaws.{left, fails-if, order}
-use Rattle.base.proofs.TestLaws.{any-at, none-any, least-at, least-none, Lowest, least-lowest, Searched, search-next}
+use Rattle.base.proofs.BoolLaws.{order}
+use Rattle.base.proofs.TestLaws.{any-at, least-at, least-none, Lowest, least-lowest, Searched, search-next}
 use Rattle.rules.specs.File.{Board}
 use Rattle.rules.specs.Refusals.{judge, paired, crossing, crossedBy, crossed, crosser}
 use Rattle.rules.specs.declared.Verdict.{Verdict}
 use Rattle.rules.specs.declared.Verdict.the-variants.{Accepted, Refused}
 use Rattle.rules.specs.declared.Position.{Position}
 use Rattle.rules.proofs.Verdicts.{judge-passes, judge-applies}
+use Rattle.rules.proofs.CrossingLaws.{crossed-none}
 use Rattle.board.specs.Controls.{pairFrom, lowestPair}
 use Rattle.board.specs.declared.controls.Crossed.{Crossed}
 use Rattle.board.specs.declared.controls.Crossed.the-variants.{Pair, NoPair}
@@ -52,9 +51,7 @@ module _ (b : Board) where
 
   -- nothing is crossed from the board's end
   end-uncrossed : crossed b (b .size) ≡ false
-  unfolding crossed crossedBy
-  end-uncrossed =
-      none-any _ _ (λ j l. fails-if _ (λ t. let up = ltb-true (b .size) j (left (ltb (b .size) j) _ t) in omega arith))
+  end-uncrossed = crossed-none b (b .size) (λ j l m t. omega arith)
 
   -- the search for the lowest: it goes on above one that has no pair, and ends at one that has
   module _ {i : ℕ} (s : Searched (b .size) (crossed b) i) where

@@ -9,6 +9,7 @@ pub mod Shape
 pub mod DriverLaws
 pub mod Acceptance
 pub mod NetSetLaws
+pub mod CrossingLaws
 pub mod Degree
 pub mod PassLaws
 pub mod Cover

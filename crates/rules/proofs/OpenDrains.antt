@@ -4,7 +4,7 @@
 use Prim.Native.Nat.{ℕ, _<_}
 use mathlib.Core.Path.{_≡_, sym, _∙_, ap}
 use mathlib.Core.Logic.{⊎-elim}
-use mathlib.Core.Bool.{true, false, not, _&&_}
+use mathlib.Core.Bool.{true, false, _&&_}
 use mathlib.Core.List.{List}
 use native.Mathlib.Omega.{arith}
 use borrow.Author.Tests.{eqb-true, eq-eqb}
@@ -12,12 +12,13 @@ use lib.Dec.{eqb}
 use Rattle.base.proofs.BoolLaws.{left, right, both, fails-not, clashes, fails-if, same-test}
 use Rattle.base.proofs.TestLaws.{any-member}
 use Rattle.rules.specs.File.{Board, boardOf, kindOf, netOf}
-use Rattle.rules.specs.Drivers.{controlled, controlFor, openDrain, isControl, onNet, driverOf, drives, drivers, meets, inside, crosses}
+use Rattle.rules.specs.Drivers.{controlled, controlFor, openDrain, isControl, onNet, driverOf, drives, drivers, inside, crosses}
 use Rattle.rules.specs.Refusals.{judge, unequal, earlyChecks}
 use Rattle.rules.specs.declared.Verdict.the-variants.{Accepted}
 use Rattle.rules.proofs.DriverLaws.{driver-kind, five, drain-control}
 use Rattle.rules.proofs.Acceptance.{Early, early}
 use Rattle.rules.proofs.NetSetLaws.{Affects, meets-net, not-included, drives-driver, driver-drives}
+use Rattle.rules.proofs.CrossingLaws.{parts}
 
 module _ (b : Board) (e : Early b) (k : ℕ) (l : k < b .size) (drain : openDrain b k ≡ true) where
   -- the driver of an open-drain output's control cell is itself
@@ -46,22 +47,12 @@ module _ (b : Board) (e : Early b) (k : ℕ) (l : k < b .size) (drain : openDrai
   lies-inside j n x y z = not-included b k j z (λ m u w. rw (same-net m n w x) y)
 
   uncrossed : (j : ℕ) → crosses b k j ≡ false
-  unfolding crosses
   uncrossed j =
-      fails-if _
-      (λ h.
-      let a = left (isControl b k && isControl b j && meets b k j && not (inside b k j)) _ h in
-      let m = meets-net b k j (right (isControl b k && isControl b j) (left (isControl b k && isControl b j && meets b k j) _ a)) in
-      lies-inside j (m .0) (m .2) (m .3) (fails-not _ (right (isControl b k && isControl b j && meets b k j) a)))
+      fails-if _ (λ h. let c = parts b k j h in let m = meets-net b k j (c .meet) in lies-inside j (m .0) (m .2) (m .3) (c .out))
 
   crossed-by-none : (j : ℕ) → crosses b j k ≡ false
-  unfolding crosses
   crossed-by-none j =
-      fails-if _
-      (λ h.
-      let a = left (isControl b j && isControl b k && meets b j k && not (inside b j k)) _ h in
-      let m = meets-net b j k (right (isControl b j && isControl b k) (left (isControl b j && isControl b k && meets b j k) _ a)) in
-      lies-inside j (m .0) (m .3) (m .2) (fails-not _ (right (isControl b j && isControl b k && meets b j k && not (inside b j k)) h)))
+      fails-if _ (λ h. let c = parts b j k h in let m = meets-net b j k (c .meet) in lies-inside j (m .0) (m .3) (m .2) (c .back))
 
   equal : unequal b k ≡ false
   unfolding unequal

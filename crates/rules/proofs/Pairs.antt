@@ -7,11 +7,11 @@ use mathlib.Core.Logic.{⊎-elim}
 use mathlib.Core.Bool.{Bool, true, false, not, _&&_}
 use mathlib.Core.List.{List, [], _∷_, _++_}
 use native.Mathlib.Omega.{arith}
-use borrow.Author.Tests.{lt-ltb, ltb-true, eqb-false}
+use borrow.Author.Tests.{ltb-true, eqb-false}
 use lib.Dec.{eqb, ltb}
 use Rattle.base.specs.Tests.{any}
 use Rattle.base.proofs.BoolLaws.{left, right, both, fails-if, fails-not, clashes, order}
-use Rattle.base.proofs.TestLaws.{any-at, any-member, none-any, Lowest, least-lowest, least-at}
+use Rattle.base.proofs.TestLaws.{any-member, Lowest, least-lowest, least-at}
 use Rattle.rules.specs.File.{Board, boardOf, cellsOf, netsOf, blocksIn}
 use Rattle.rules.specs.Drivers.{crosses}
 use Rattle.rules.specs.Refusals.{Check, judge, paired, numbered, numberOf, placeOf, secondOf, each, once, crossing, crossedBy, crossed, crosser}
@@ -23,6 +23,7 @@ use Rattle.rules.specs.declared.Verdict.{Verdict}
 use Rattle.rules.specs.declared.Verdict.the-variants.{Accepted, Refused}
 use Rattle.rules.proofs.Verdicts.{Passes, Applies, AllPass, accepted, append-pass, First, here, later, given-first, judge-applies, judge-append, judge-refused}
 use Rattle.rules.proofs.Shape.{whole-blocks, laid, shaped}
+use Rattle.rules.proofs.CrossingLaws.{crossed-by, by-crossing, crossed-at, crossed-none}
 
 -- the pair that is named: i is the "lowest position that is the smaller of such a pair", j "the smallest larger position that crosses it"
 pub record FirstPair (b : Board) (i j : ℕ) : Type 0 where
@@ -43,21 +44,9 @@ one-pair b i j k m p q =
     let w = q .smallest j (p′ .larger) (p′ .on-board) (p′ .cross) in
     (same, omega arith)
 
--- what is said of a position that another crosses, above it and on the board
+-- what check 10 says of i
 module _ (b : Board) (i : ℕ) where
-  by : (j : ℕ) → crossedBy b i j ≡ true → (i < j) × (crosses b i j ≡ true)
-  unfolding crossedBy
-  by j t = (ltb-true i j (left (ltb i j) _ t), right (ltb i j) t)
-
-  is-by : (j : ℕ) → i < j → crosses b i j ≡ true → crossedBy b i j ≡ true
-  unfolding crossedBy
-  is-by j l t = both (lt-ltb i j l) t
-
-  is-crossed : (j : ℕ) → i < j → j < b .size → crosses b i j ≡ true → crossed b i ≡ true
-  unfolding crossed
-  is-crossed j l m t = any-at _ _ m (is-by j l t)
-
-  -- what the check says of i is the lowest of those
+  -- it is the lowest of the larger positions that cross it
   crosser-lowest : Lowest (crossedBy b i) 0 (b .size) (crosser b i)
   unfolding crosser
   crosser-lowest = least-lowest (b .size) (crossedBy b i)
@@ -65,11 +54,11 @@ module _ (b : Board) (i : ℕ) where
   crosser-below : crossed b i ≡ true → crosser b i < b .size
   unfolding crossed
   crosser-below t =
-      let some = any-member _ _ t in
-      let l = some .1 in
+      let member = any-member _ _ t in
+      let l = member .1 in
       ⊎-elim
       (λ (h : crosser b i < b .size). h)
-      (λ (h : b .size ≤ crosser b i). absurd (clashes (some .2) (crosser-lowest .lower (some .0) (omega arith) (omega arith))))
+      (λ (h : b .size ≤ crosser b i). absurd (clashes (member .2) (crosser-lowest .lower (member .0) (omega arith) (omega arith))))
       (order (crosser b i) (b .size))
 
 -- the check applies at i: the pair is i and what it says as the second place
@@ -78,29 +67,29 @@ pair-applies b i a =
     let low = crosser-lowest b i in
     let on = crosser-below b i (a .applies) in
     record {
-      larger = by b i _ (low .passes on) .0;
+      larger = crossed-by b i _ (low .passes on) .0;
       on-board = on;
-      cross = by b i _ (low .passes on) .1;
+      cross = crossed-by b i _ (low .passes on) .1;
       lowest = lowest;
       smallest = smallest;
     }
   where
     lowest : (k m : ℕ) → k < m → m < b .size → crosses b k m ≡ true → i ≤ k
     lowest k m l n x =
-        ⊎-elim (λ (q : k < i). absurd (clashes (is-crossed b k m l n x) (a .lowest k q))) (λ (q : i ≤ k). q) (order k i)
+        ⊎-elim (λ (q : k < i). absurd (clashes (crossed-at b k m l n x) (a .lowest k q))) (λ (q : i ≤ k). q) (order k i)
 
     smallest : (m : ℕ) → i < m → m < b .size → crosses b i m ≡ true → crosser b i ≤ m
     smallest m l n x =
         ⊎-elim
-        (λ (q : m < crosser b i). absurd (clashes (is-by b i m l x) (crosser-lowest b i .lower m (omega arith) q)))
+        (λ (q : m < crosser b i). absurd (clashes (by-crossing b i m l x) (crosser-lowest b i .lower m (omega arith) q)))
         (λ (q : crosser b i ≤ m). q)
         (order m (crosser b i))
 
 -- and where a board has the pair, the check applies at i and says j
 pub applies-pair : (b : Board) (i j : ℕ) → FirstPair b i j → Applies (crossing b) i × (crosser b i ≡ j)
-unfolding crossed crosser
+unfolding crosser
 applies-pair b i j p =
-    (record { within = omega arith; applies = is-crossed b i j l m (p .cross); lowest = none-lower }, least-at _ _ m (is-by b i j l (p .cross)) none-between)
+    (record { within = omega arith; applies = crossed-at b i j l m (p .cross); lowest = none-lower }, least-at _ _ m (by-crossing b i j l (p .cross)) none-between)
   where
     l : i < j
     l = p .larger
@@ -108,12 +97,11 @@ applies-pair b i j p =
     m : j < b .size
     m = p .on-board
 
-    none-lower : (k : ℕ) → k < i → any (b .size) (crossedBy b k) ≡ false
-    none-lower k q =
-        none-any _ _ (λ x n. fails-if _ (λ t. let up = p .lowest k x (by b k x t .0) n (by b k x t .1) in omega arith))
+    none-lower : (k : ℕ) → k < i → crossed b k ≡ false
+    none-lower k q = crossed-none b k (λ x u n t. let up = p .lowest k x u n t in omega arith)
 
     none-between : (x : ℕ) → x < j → crossedBy b i x ≡ false
-    none-between x q = fails-if _ (λ t. let up = p .smallest x (by b i x t .0) (omega arith) (by b i x t .1) in omega arith)
+    none-between x q = fails-if _ (λ t. let up = p .smallest x (crossed-by b i x t .0) (omega arith) (crossed-by b i x t .1) in omega arith)
 
 -- what a refusal says: its numbers fit their bits, 10 names the pair, and every other number no second place
 pub record Says (b : Board) (r : Refusal) : Type 0 where

@@ -8,19 +8,20 @@ use mathlib.Core.Bool.{true, false, not, _&&_}
 use mathlib.Core.List.{List}
 use native.Mathlib.Nat.{eq-or-lt-of-le}
 use native.Mathlib.Omega.{arith}
-use borrow.Author.Tests.{eqb-true, eq-eqb, lt-ltb}
-use lib.Dec.{eqb, ltb}
+use borrow.Author.Tests.{eqb-true, eq-eqb}
+use lib.Dec.{eqb}
 use Rattle.base.proofs.BoolLaws.{Decided, decided, order, left, right, both, not-fails, fails-not, clashes, fails-if, passes-if}
-use Rattle.base.proofs.TestLaws.{any-member, any-none, none-any}
+use Rattle.base.proofs.TestLaws.{any-member, any-none}
 use Rattle.rules.specs.File.{Board, boardOf}
 use Rattle.rules.specs.Drivers.{isControl, drives, drivers, outputs, meets, inside, crosses}
-use Rattle.rules.specs.Refusals.{judge, numberOf, crossedBy, crossed, unequal, controlChecks, earlyChecks, boardChecks}
+use Rattle.rules.specs.Refusals.{judge, numberOf, unequal, controlChecks, earlyChecks, boardChecks}
 use Rattle.rules.specs.declared.Refusal.{Refusal}
 use Rattle.rules.specs.declared.Verdict.{Verdict}
 use Rattle.rules.specs.declared.Verdict.the-variants.{Accepted, Refused}
 use Rattle.rules.proofs.Verdicts.{AllPass, First, here, later, all-pass, accepted, given-first, judge-append}
 use Rattle.rules.proofs.Acceptance.{Early, early}
 use Rattle.rules.proofs.NetSetLaws.{Affects, Disjoint, Included, meets-net, apart, included, not-included, outputs-drivers}
+use Rattle.rules.proofs.CrossingLaws.{parts, crossing-of, crossed-at, crossed-none}
 
 pub record ControlCell (b : Board) (k : ℕ) : Type 0 where
   pub on-board : k < b .size
@@ -39,7 +40,6 @@ ApartOrNested b i j = Disjoint b i j ⊎ (Included b i j ⊎ Included b j i)
 
 -- so do two that do not cross
 apart-or-nested : (b : Board) (i j : ℕ) → ControlCell b i → ControlCell b j → crosses b i j ≡ false → ApartOrNested b i j
-unfolding crosses
 apart-or-nested b i j x y h = go (decided (meets b i j)) (decided (inside b i j)) (decided (inside b j i))
   where
     go : Decided (meets b i j) → Decided (inside b i j) → Decided (inside b j i) → ApartOrNested b i j
@@ -47,15 +47,15 @@ apart-or-nested b i j x y h = go (decided (meets b i j)) (decided (inside b i j)
     go (inl m) (inl p) q = inr (inl (included b i j p))
     go (inl m) (inr p) (inl q) = inr (inr (included b j i q))
     go (inl m) (inr p) (inr q) =
-        absurd (clashes (both (both (both (both (x .is-control) (y .is-control)) m) (not-fails p)) (not-fails q)) h)
+        absurd (clashes (crossing-of b i j (record { first = x .is-control; second = y .is-control; meet = m; out = p; back = q })) h)
 
 -- the two checks pass: the requirement holds
 holds : (b : Board) → Early b → AllPass (controlChecks b) → Requirement b
-unfolding controlChecks crossed crossedBy unequal
+unfolding controlChecks unequal
 holds b e h = record { nested = nested; equal = equal }
   where
     below : (i j : ℕ) → i < j → i < b .size → j < b .size → crosses b i j ≡ false
-    below i j l x y = fails-if _ (λ t. clashes (both (lt-ltb i j l) t) (any-none _ _ (h .0 i x) y))
+    below i j l x y = fails-if _ (λ t. clashes (crossed-at b i j l y t) (h .0 i x))
 
     nested : (i j : ℕ) → ControlCell b i → ControlCell b j → ApartOrNested b i j
     nested i j x y =
@@ -81,23 +81,18 @@ holds b e h = record { nested = nested; equal = equal }
 
 -- the requirement holds: the two checks pass
 passes : (b : Board) → Early b → Requirement b → AllPass (controlChecks b)
-unfolding controlChecks crossed crossedBy unequal crosses
-passes b e r = (λ i l. none-any _ _ (λ j m. fails-if _ (uncrossed i j l m)), (λ k l. fails-if _ (unequalled k l), tt))
+unfolding controlChecks unequal
+passes b e r = (λ i l. crossed-none b i (λ j u m. uncrossed i j l m), (λ k l. fails-if _ (unequalled k l), tt))
   where
-    uncrossed : (i j : ℕ) → i < b .size → j < b .size → (ltb i j && crosses b i j) ≡ true → ⊥
+    uncrossed : (i j : ℕ) → i < b .size → j < b .size → crosses b i j ≡ true → ⊥
     uncrossed i j l m t =
-        let c = right (ltb i j) t in
-        let out = right (isControl b i && isControl b j && meets b i j && not (inside b i j)) c in
-        let c3 = left (isControl b i && isControl b j && meets b i j && not (inside b i j)) _ c in
-        let in′ = right (isControl b i && isControl b j && meets b i j) c3 in
-        let c2 = left (isControl b i && isControl b j && meets b i j) _ c3 in
-        let meet = meets-net b i j (right (isControl b i && isControl b j) c2) in
-        let c1 = left (isControl b i && isControl b j) _ c2 in
-        let x : ControlCell b i = record { on-board = l; is-control = left (isControl b i) _ c1 } in
-        let y : ControlCell b j = record { on-board = m; is-control = right (isControl b i) c1 } in
+        let c = parts b i j t in
+        let meet = meets-net b i j (c .meet) in
+        let x : ControlCell b i = record { on-board = l; is-control = c .first } in
+        let y : ControlCell b j = record { on-board = m; is-control = c .second } in
         ⊎-elim
         (λ d. d (meet .0) (meet .1) (meet .2) (meet .3))
-        (λ p. ⊎-elim (not-included b i j (fails-not _ in′)) (not-included b j i (fails-not _ out)) p)
+        (λ p. ⊎-elim (not-included b i j (c .out)) (not-included b j i (c .back)) p)
         (r .nested i j x y)
 
     unequalled : (k : ℕ) → k < b .size → unequal b k ≡ true → ⊥
