@@ -47,7 +47,7 @@
 #include <stdint.h>
 
 /* The version of library, header and command, and the only place where it stands. */
-#define RIGCANDLE_VERSION "1.2.0"
+#define RIGCANDLE_VERSION "1.3.0"
 
 /* An answer that nobody looks at may be a refusal taken for a clean board: such a call is warned of. */
 #if defined(__GNUC__) || defined(__clang__)

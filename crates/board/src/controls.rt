@@ -27,6 +27,7 @@ use chains::sharing::nets_of;
 use chains::sharing::partners;
 use rules::Position;
 use rules::Verdict;
+use words::NET_WORDS;
 use words::NetSet;
 use words::Relation;
 
@@ -36,11 +37,11 @@ pub enum Crossed {
     NoPair,
 }
 
-// Two net sets meet and neither holds the other.
-fn sets_cross(a: NetSet, b: NetSet) -> bool
-    ensures { λ r. ⌜ r ≡ isCrossing (relationOf (64 * netWords) (member (a .words)) (member (b .words))) ⌝ }
+// Two net sets, read where they stand, meet and neither holds the other.
+fn sets_cross(a: &[u64; NET_WORDS], b: &[u64; NET_WORDS]) -> bool
+    ensures { λ r. ⌜ r ≡ isCrossing (relationOf (64 * netWords) (member (now (a .entry))) (member (now (b .entry)))) ⌝ }
 {
-    let relation = a.compare(b);
+    let relation = NetSet::compare(a, b);
     match relation {
         Relation::Apart => false,
         Relation::Inside => false,
@@ -66,7 +67,8 @@ fn pair_from(file: &[u8], table: &[u16; TABLE], cells: usize, i: Position) -> Cr
     let mut j = met.next(i.0 as usize + 1);
     while j < cells {
         let higher = Position(j as u16);
-        if sets_cross(mine, nets_of(file, table, higher)) {
+        let theirs = nets_of(file, table, higher);
+        if sets_cross(&mine.words, &theirs.words) {
             return Crossed::Pair(i, higher);
         }
         j = met.next(j + 1);

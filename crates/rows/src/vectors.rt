@@ -49,32 +49,35 @@ fn drain_bit(turn: bool, value: bool) -> bool
 }
 
 // The bit of the cell at p, where these control cells are on and these nets have value 1.
-fn cell_bit(cell: Cell, p: Position, on: CellSet, nets: NetSet) -> bool
-    requires { ⌜ (p .0 < 64 * cellWords) × (outNet cell < 64 * netWords) ⌝ }
-    ensures { λ r. ⌜ r ≡ bitOf (member (on .words) (p .0)) (member (nets .words)) cell ⌝ }
+fn cell_bit(cell: Cell, p: Position, on: &[u64], nets: &[u64]) -> bool
+    requires { ⌜ (p .0 < 64 * length (now on)) × (outNet cell < 64 * length (now nets)) ⌝ }
+    ensures { λ r. ⌜ r ≡ bitOf (member (now (on .entry)) (p .0)) (member (now (nets .entry))) cell ⌝ }
 {
     match cell {
         Cell::Internal => false,
         Cell::Input(_) => false,
-        Cell::Control(value) => control_bit(on.has(p), value),
-        Cell::ThreeState(_, n) => nets.has(n),
-        Cell::TwoState(n) => nets.has(n),
-        Cell::OpenDrain(n) => drain_bit(on.has(p), nets.has(n)),
+        Cell::Control(value) => control_bit(loops::has(on, p.0 as usize), value),
+        Cell::ThreeState(_, n) => loops::has(nets, n.0 as usize),
+        Cell::TwoState(n) => loops::has(nets, n.0 as usize),
+        Cell::OpenDrain(n) => drain_bit(
+            loops::has(on, p.0 as usize),
+            loops::has(nets, n.0 as usize),
+        ),
     }
 }
 
 // The cell at c joins the row, if its bit is 1.
-fn add_bit(file: &[u8], on: CellSet, nets: NetSet, c: Position, row: &mut [u64])
+fn add_bit(file: &[u8], on: &[u64], nets: &[u64], c: Position, row: &mut [u64])
     requires { ⌜ Whole (now file) (c .0) ⌝ }
-    requires { ⌜ length (now row) ≡ cellWords ⌝ }
-    ensures { λ r. ⌜ member (now (row .exit)) ≡ plusIf (bitAt (boardOf (now (file .entry))) (member (on .words)) (member (nets .words))) (c .0) (member (now (row .entry))) ⌝ }
+    requires { ⌜ (length (now on) ≡ cellWords) × (length (now nets) ≡ netWords) × (length (now row) ≡ cellWords) ⌝ }
+    ensures { λ r. ⌜ member (now (row .exit)) ≡ plusIf (bitAt (boardOf (now (file .entry))) (member (now (on .entry))) (member (now (nets .entry)))) (c .0) (member (now (row .entry))) ⌝ }
 {
     if cell_bit(cell_at(file, c), c, on, nets) {
         loops::add(row, c.0 as usize);
     }
 }
 
-// The cells whose bit is 1, gathered where they stand.
+// The cells whose bit is 1, gathered where they stand. The two sets are lent to each cell, not copied for it.
 fn row_cells(file: &[u8], cells: usize, on: CellSet, nets: NetSet) -> CellSet
     requires { ⌜ judge (fileChecks (now file)) ≡ Accepted ⌝ }
     requires { ⌜ cells ≡ cellsOf (now file) ⌝ }
@@ -83,7 +86,7 @@ fn row_cells(file: &[u8], cells: usize, on: CellSet, nets: NetSet) -> CellSet
     let mut words = [0u64; CELL_WORDS];
     let mut c = 0;
     while c < cells {
-        add_bit(file, on, nets, Position(c as u16), &mut words);
+        add_bit(file, &on.words, &nets.words, Position(c as u16), &mut words);
         c += 1;
     }
     CellSet { words }

@@ -13,16 +13,16 @@ use Rattle.rules.specs.Drivers.{driverAt, controlled, drives}
 use Rattle.rules.specs.Groups.{marked, turn, pass, firstPass, secondPass, selected, earlier, group, onIn}
 use Rattle.rules.specs.declared.Net.{Net}
 use Rattle.rules.specs.declared.Position.{Position}
+use Rattle.rules.specs.declared.Driver.{Driver}
 use Rattle.rules.specs.declared.Driver.the-variants.{Of, Nothing}
 use Rattle.rules.proofs.Shape.{laid, shaped}
 use Rattle.rules.proofs.DriverLaws.{is-driver, no-driver, net-below}
-use Rattle.words.specs.Sets.{netWords, member, nothing, either, plus, meetsIn}
+use Rattle.words.specs.Sets.{netWords, nothing, either, plus, meetsIn}
 use Rattle.chains.specs.Table.{countIn}
 use Rattle.chains.proofs.Brought.{known-net}
 use Rattle.select.specs.declared.turns.Pass.{Pass}
 use Rattle.select.specs.declared.turns.Pass.the-variants.{First, Second}
-use Rattle.select.specs.declared.turns.Turned.{Turned}
-use Rattle.select.specs.Turns.{wantedAt, wantedIn, allowedIn, coveredBy, reached, joined, listed, Holds, Ready}
+use Rattle.select.specs.Turns.{wantedAt, wantedIn, allowedIn, stopping, turnTo, coveredBy, reached, joined, listed, Turned, Holds, Ready}
 use Rattle.select.proofs.Largest.{degree-held}
 use Rattle.select.proofs.Marking.{covered-marked, marked-reached}
 
@@ -53,37 +53,71 @@ module _ (b : Board) (nets f : ℕ → Bool) (on : List ℕ) (k : ℕ) (r : Bool
   joins t = rw (told false t)
 
 -- sets that hold one list hold the same list under another name
-pub holds-same : {b : Board} {state : Turned} {on now : List ℕ} → on ≡ now → Holds b on state → Holds b now state
-holds-same {b} {state} e h = subst (λ (l : List ℕ). Holds b l state) e h
+pub holds-same : {b : Board} {turned : Turned} {on now : List ℕ} → on ≡ now → Holds b on turned → Holds b now turned
+holds-same {b} {turned} e h = subst (λ (l : List ℕ). Holds b l turned) e h
 
 cond-not : {A : Type 0} (x y : A) (r : Bool) → cond (not r) x y ≡ cond r y x
 cond-not x y true = refl
 cond-not x y false = refl
 
--- what one position does, by what stands there
+-- what one position does is what the pass does where it stops
+stops : (b : Board) (k : Position) (n : Net) (at : Bool) (on : List ℕ) → turnTo b (cond at (Of k n) Nothing) on ≡ cond (at && not (marked b on (k .0))) (k .0 ∷ on) on
+unfolding turnTo
+stops b k n true on = sym (cond-not (k .0 ∷ on) on (marked b on (k .0)))
+stops b k n false on = refl
+
 module _ (b : Board) (wanted allowed : ℕ → Bool) (c : ℕ) (on : List ℕ) where
-  pub turn-none : driverAt b c ≡ Nothing → on ≡ turn b wanted allowed c on
-  unfolding turn
-  turn-none e = rw (no-driver b c e)
+  turn-by : (driver : Driver) → driverAt b c ≡ driver → turnTo b (stopping wanted allowed driver) on ≡ turn b wanted allowed c on
+  unfolding turn stopping turnTo
+  turn-by Nothing e = rw (no-driver b c e)
+  turn-by (Of k n) e = let d = is-driver b c k n e in rw (d .0, d .1, d .2) (stops b k n (wanted (n .0) && allowed (k .0)) on)
 
-  module _ (k : Position) (n : Net) (e : driverAt b c ≡ Of k n) where
-    -- its test: the net is wanted, the control cell allowed and unmarked
-    turn-is : turn b wanted allowed c on ≡ cond (wanted (n .0) && allowed (k .0) && not (marked b on (k .0))) (k .0 ∷ on) on
-    unfolding turn
-    turn-is = let d = is-driver b c k n e in rw (d .0, d .1, d .2)
+  pub turn-is : turnTo b (stopping wanted allowed (driverAt b c)) on ≡ turn b wanted allowed c on
+  turn-is = turn-by (driverAt b c) refl
 
-    pub turn-unwanted : wanted (n .0) ≡ false → on ≡ turn b wanted allowed c on
-    turn-unwanted w = sym (turn-is ∙ rw w)
+-- whether the pass stops at the driver that was found
+module _ (wanted allowed : ℕ → Bool) (found at : Driver) (e : found ≡ at) where
+  pub stop-none : found ≡ Nothing → found ≡ stopping wanted allowed at
+  unfolding stopping
+  stop-none d = rw (← e, d)
 
-    pub turn-barred : allowed (k .0) ≡ false → on ≡ turn b wanted allowed c on
-    turn-barred a = sym (turn-is ∙ rw (a, and-false (wanted (n .0))))
+  module _ (k : Position) (n : Net) (d : found ≡ Of k n) where
+    pub stop-here : wanted (n .0) ≡ true → allowed (k .0) ≡ true → Of k n ≡ stopping wanted allowed at
+    unfolding stopping
+    stop-here w a = rw (← e, d, w, a)
 
-    pub turn-marked : marked b on (k .0) ≡ true → on ≡ turn b wanted allowed c on
-    turn-marked m = sym (turn-is ∙ rw (m, and-false (wanted (n .0) && allowed (k .0))))
+    pub stop-unwanted : wanted (n .0) ≡ false → Nothing ≡ stopping wanted allowed at
+    unfolding stopping
+    stop-unwanted w = rw (← e, d, w)
 
-    pub turn-joins : wanted (n .0) ≡ true → allowed (k .0) ≡ true → marked b on (k .0) ≡ reached b on (k .0) → joined b on (k .0) ≡ turn b wanted allowed c on
-    unfolding joined
-    turn-joins w a m = sym (turn-is ∙ rw (w, a, m) (cond-not (k .0 ∷ on) on (reached b on (k .0))))
+    pub stop-barred : allowed (k .0) ≡ false → Nothing ≡ stopping wanted allowed at
+    unfolding stopping
+    stop-barred a = rw (← e, d, a, and-false (wanted (n .0)))
+
+-- and what it stops at stands there
+kept : (k j : Position) (n m : Net) (at : Bool) → cond at (Of j m) Nothing ≡ Of k n → Of j m ≡ Of k n
+kept k j n m true e = e
+kept k j n m false e = cc
+
+pub stopped : (wanted allowed : ℕ → Bool) (at : Driver) (k : Position) (n : Net) → stopping wanted allowed at ≡ Of k n → at ≡ Of k n
+unfolding stopping
+stopped wanted allowed (Of j m) k n e = kept k j n m (wanted (m .0) && allowed (j .0)) e
+stopped wanted allowed Nothing k n e = e
+
+-- what the pass does there
+module _ (b : Board) (driver : Driver) (on : List ℕ) where
+  pub to-nothing : driver ≡ Nothing → on ≡ turnTo b driver on
+  unfolding turnTo
+  to-nothing d = rw d
+
+  module _ (k : Position) (n : Net) (d : driver ≡ Of k n) where
+    pub to-marked : marked b on (k .0) ≡ true → on ≡ turnTo b driver on
+    unfolding turnTo
+    to-marked m = rw (d, m)
+
+    pub to-joined : marked b on (k .0) ≡ reached b on (k .0) → joined b on (k .0) ≡ turnTo b driver on
+    unfolding turnTo joined
+    to-joined m = rw (d, m)
 
 -- what the table and the sets say of a driver of an accepted board
 module _ (file t : List ℕ) (ready : Ready file t) (c : ℕ) (l : c < cellsOf file) (k : Position) (n : Net) (e : driverAt (boardOf file) c ≡ Of k n) where
@@ -114,18 +148,18 @@ module _ (file t : List ℕ) (ready : Ready file t) (c : ℕ) (l : c < cellsOf f
       rw (d .1) at (marked-reached (boardOf file) nets-bounded known on c l (d .0))
 
 -- a group at its start, and at its end
-pub holds-none : (b : Board) (state : Turned) → member (state .on .words) ≡ nothing → member (state .covered .words) ≡ nothing → Holds b [] state
+pub holds-none : (b : Board) (turned : Turned) → turned .0 ≡ nothing → turned .1 ≡ nothing → Holds b [] turned
 unfolding has coveredBy
-holds-none b state e f = record { on-are = e; covered-are = f }
+holds-none b turned e f = record { on-are = e; covered-are = f }
 
 -- the second pass after the first, where f are the earlier groups' control cells
 abbrev passes : Board → ℕ → (ℕ → Bool) → ℕ → List ℕ
 passes b g f size = pass b (wantedIn b Second g) (allowedIn Second f) size (pass b (wantedIn b First g) (allowedIn First f) size [])
 
-pub selected-is : (b : Board) (g : ℕ) (used : List ℕ) (f : ℕ → Bool) (size : ℕ) (state : Turned) → f ≡ listed used → size ≡ b .size
-    → Holds b (passes b g f size) state → member (state .on .words) ≡ listed (selected b g used)
+pub selected-is : (b : Board) (g : ℕ) (used : List ℕ) (f : ℕ → Bool) (size : ℕ) (turned : Turned) → f ≡ listed used → size ≡ b .size
+    → Holds b (passes b g f size) turned → turned .0 ≡ listed (selected b g used)
 unfolding selected firstPass secondPass wantedIn wantedAt allowedIn
-selected-is b g used f size state e s h =
+selected-is b g used f size turned e s h =
     h .on-are ∙ ap (λ (x : ℕ). listed (passes b g f x)) s ∙ ap (λ (t : ℕ → Bool). listed (passes b g t (b .size))) e
 
 -- group by group: no earlier group, one more of them, and the group itself

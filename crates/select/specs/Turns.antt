@@ -1,24 +1,27 @@
 -- The two passes' tests, and what the sets of a pass hold: the control cells that are on, and their nets.
-use Prim.Native.Nat.{ℕ, _*_}
+use Prim.Native.Nat.{ℕ, _*_, _<_}
 use mathlib.Core.Path.{_≡_}
-use mathlib.Core.Bool.{Bool, true, false, cond, not, _||_}
+use mathlib.Core.Bool.{Bool, true, false, cond, not, _&&_, _||_}
 use mathlib.Core.List.{List, [], _∷_}
 use lib.Dec.{ltb, leb}
 use lib.ListN.{length}
 use Rattle.base.specs.Lists.{has}
-use Rattle.rules.specs.File.{Board, cellsOf}
-use Rattle.rules.specs.Drivers.{degree, drives}
-use Rattle.rules.specs.Groups.{turn, pass}
+use Rattle.rules.specs.File.{Board, boardOf, cellsOf}
+use Rattle.rules.specs.Drivers.{driverAt, degree, drives}
+use Rattle.rules.specs.Groups.{marked, pass}
 use Rattle.rules.specs.Refusals.{judge, boardChecks}
 use Rattle.rules.specs.declared.Verdict.the-variants.{Accepted}
-use Rattle.words.specs.Sets.{netWords, member, meetsIn}
+use Rattle.rules.specs.declared.Net.{Net}
+use Rattle.rules.specs.declared.Position.{Position}
+use Rattle.rules.specs.declared.Driver.{Driver}
+use Rattle.rules.specs.declared.Driver.the-variants.{Of, Nothing}
+use Rattle.words.specs.Sets.{netWords, meetsIn}
 use Rattle.chains.specs.Table.{ControlCell, tableSize}
 use Rattle.chains.specs.Chains.{Chains}
 use Rattle.chains.specs.Counts.{Counted}
 use Rattle.select.specs.declared.turns.Pass.{Pass}
 use Rattle.select.specs.declared.turns.Pass.the-variants.{First, Second}
 use Rattle.select.specs.declared.turns.Rule.{Rule}
-use Rattle.select.specs.declared.turns.Turned.{Turned}
 
 -- "whose net has degree g or more"; in the second pass "degree below g"
 unfoldable pub wantedAt : Pass → ℕ → ℕ → Bool
@@ -33,12 +36,27 @@ unfoldable pub allowedIn : Pass → (ℕ → Bool) → ℕ → Bool
 allowedIn First used k = not (used k)
 allowedIn Second used k = true
 
--- one position of the pass that goes by a rule, and that pass over the positions below c
-abbrev pub turnBy : Board → Rule → ℕ → List ℕ → List ℕ
-turnBy b rule c on = turn b (wantedIn b (rule .which) (rule .group)) (allowedIn (rule .which) (member (rule .earlier .words))) c on
+-- a driver, if the pass stops at it: "a kind 3 output whose net has degree ..., whose control cell ... was on in no earlier group"
+unfoldable pub stopping : (ℕ → Bool) → (ℕ → Bool) → Driver → Driver
+stopping wanted allowed (Of k n) = cond (wanted (n .0) && allowed (k .0)) (Of k n) Nothing
+stopping wanted allowed Nothing = Nothing
 
-abbrev pub passBy : Board → Rule → ℕ → List ℕ → List ℕ
-passBy b rule c on = pass b (wantedIn b (rule .which) (rule .group)) (allowedIn (rule .which) (member (rule .earlier .words))) c on
+-- the driver at c, if the pass that goes by a rule stops at it, and that pass over the positions below c; `used` are the control cells that
+-- were on in an earlier group
+abbrev pub stopBy : Board → Rule → (ℕ → Bool) → ℕ → Driver
+stopBy b rule used c = stopping (wantedIn b (rule .which) (rule .group)) (allowedIn (rule .which) used) (driverAt b c)
+
+abbrev pub passBy : Board → Rule → (ℕ → Bool) → ℕ → List ℕ → List ℕ
+passBy b rule used c on = pass b (wantedIn b (rule .which) (rule .group)) (allowedIn (rule .which) used) c on
+
+-- where a pass stops, the driver's control cell is turned on, unless it is marked
+unfoldable pub turnTo : Board → Driver → List ℕ → List ℕ
+turnTo b (Of k n) on = cond (marked b on (k .0)) on (k .0 ∷ on)
+turnTo b Nothing on = on
+
+-- what a pass may stop at: a driver of the board, or nothing
+abbrev pub Stop : List ℕ → Driver → Type 0
+Stop file driver = (k : Position) (n : Net) → driver ≡ Of k n → (c : ℕ) × (c < cellsOf file) × (driverAt (boardOf file) c ≡ Of k n)
 
 -- the nets of the control cells that are on
 unfoldable pub coveredBy : Board → List ℕ → ℕ → Bool
@@ -57,12 +75,16 @@ joined b on k = cond (reached b on k) on (k ∷ on)
 abbrev pub listed : List ℕ → ℕ → Bool
 listed on k = has k on
 
--- the sets are those of the control cells that are on
-pub record Holds (b : Board) (on : List ℕ) (state : Turned) : Type 0 where
-  pub on-are : member (state .on .words) ≡ listed on
-  pub covered-are : member (state .covered .words) ≡ coveredBy b on
+-- what a pass has done so far, as two sets: the control cells that are on, and the nets that they cover
+abbrev pub Turned : Type 0
+Turned = (ℕ → Bool) × (ℕ → Bool)
 
--- whatever list the sets `from` hold, the sets `to` hold what f makes of it
+-- the sets are those of the control cells that are on
+pub record Holds (b : Board) (on : List ℕ) (turned : Turned) : Type 0 where
+  pub on-are : turned .0 ≡ listed on
+  pub covered-are : turned .1 ≡ coveredBy b on
+
+-- whatever list the sets of `from` hold, those of `to` hold what f makes of it
 abbrev pub Leads : Board → (List ℕ → List ℕ) → Turned → Turned → Type 0
 Leads b f from to = (on : List ℕ) → Holds b on from → Holds b (f on) to
 

@@ -10,9 +10,9 @@ ghost use Rattle.select.specs.Highest.{Order};
 use crate::order::fill_order;
 use crate::turns::Pass;
 use crate::turns::Rule;
-use crate::turns::Turned;
 use crate::turns::run_pass;
 use chains::TABLE;
+use words::CELL_WORDS;
 use words::CellSet;
 use words::NetSet;
 
@@ -27,23 +27,27 @@ pub fn selected(
     requires { ⌜ Order (now file) (now table) found ⌝ }
     ensures { λ r. ⌜ ((used : List ℕ) → member (earlier .words) ≡ listed used → member (r .words) ≡ listed (selected (boardOf (now (file .entry))) g used)) ⌝ }
 {
-    let nothing = Turned {
-        on: CellSet::empty(),
-        covered: NetSet::empty(),
-    };
-    let first_rule = Rule {
+    let mut words = [0u64; CELL_WORDS];
+    let first = Rule {
         which: Pass::First,
         group: g,
-        earlier,
+        found,
     };
-    let first = run_pass(file, table, found, first_rule, nothing);
-    let second_rule = Rule {
+    let covered = run_pass(
+        file,
+        table,
+        first,
+        &earlier.words,
+        NetSet::empty(),
+        &mut words,
+    );
+    let second = Rule {
         which: Pass::Second,
         group: g,
-        earlier,
+        found,
     };
-    let second = run_pass(file, table, found, second_rule, first);
-    second.on
+    run_pass(file, table, second, &earlier.words, covered, &mut words);
+    CellSet { words }
 }
 
 // The control cells that are on in group g, by the highest drivers.

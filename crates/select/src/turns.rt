@@ -1,11 +1,11 @@
 // One position of a pass, and a pass: the control cells that it turns on.
 ghost use mathlib.Core.Path.{_≡_};
-ghost use mathlib.Core.List.{List};
-ghost use Prim.Native.Nat.{ℕ, _<_, _*_};
+ghost use Prim.Native.Nat.{_<_, _*_};
+ghost use lib.ListN.{length};
 ghost use Rattle.rules.specs.File.{Board, boardOf, cellsOf};
 ghost use Rattle.rules.specs.Drivers.{drives};
 ghost use Rattle.words.specs.Sets.{cellWords, member};
-ghost use Rattle.select.specs.Turns.{wantedAt, allowedIn, turnBy, passBy, joined, Ready, Holds, Leads};
+ghost use Rattle.select.specs.Turns.{wantedAt, allowedIn, stopBy, turnTo, passBy, joined, Ready, Stop, Leads};
 ghost use Rattle.select.specs.Highest.{Order};
 use cells::driver_at;
 use chains::TABLE;
@@ -14,8 +14,8 @@ use chains::sharing::nets_of;
 use chains::spare;
 use rules::Driver;
 use rules::Position;
-use words::CellSet;
 use words::NetSet;
+use words::loops;
 
 // The two passes of a group.
 pub enum Pass {
@@ -23,19 +23,11 @@ pub enum Pass {
     Second,
 }
 
-// What a pass goes by: which of the two it is, of which group, and the control cells that were on in an
-// earlier group.
+// What a pass goes by: which of the two it is, of which group, and how many highest drivers the table holds.
 pub struct Rule {
     pub which: Pass,
     pub group: usize,
-    pub earlier: CellSet,
-}
-
-// The control cells that are on so far, and their nets: a control cell is marked when one of its
-// nets is among these.
-pub struct Turned {
-    pub on: CellSet,
-    pub covered: NetSet,
+    pub found: usize,
 }
 
 impl Rule {
@@ -50,72 +42,97 @@ impl Rule {
         }
     }
 
-    // The pass may turn control cell k on, as far as the earlier groups go.
-    fn allows(self, k: Position) -> bool
-        requires { ⌜ k .0 < 64 * cellWords ⌝ }
-        ensures { λ r. ⌜ r ≡ allowedIn (self .which) (member (self .earlier .words)) (k .0) ⌝ }
+    // The pass may turn control cell k on, as far as those that were on in an earlier group go.
+    fn allows(self, earlier: &[u64], k: Position) -> bool
+        requires { ⌜ k .0 < 64 * length (now earlier) ⌝ }
+        ensures { λ r. ⌜ r ≡ allowedIn (self .which) (member (now (earlier .entry))) (k .0) ⌝ }
     {
         let which = self.which;
         match which {
-            Pass::First => !self.earlier.has(k),
+            Pass::First => !loops::has(earlier, k.0 as usize),
             Pass::Second => true,
         }
     }
 }
 
-// With control cell k on besides, whose nets these are, unless one of them is covered.
-fn turn_on(k: Position, nets: NetSet, state: Turned) -> Turned
-    requires { ⌜ k .0 < 64 * cellWords ⌝ }
-    ensures { λ r. ⌜ ((b : Board) (on : List ℕ) → member (nets .words) ≡ drives b (k .0) → Holds b on state → Holds b (joined b on (k .0)) r) ⌝ }
-{
-    if nets.meets(state.covered) {
-        return state;
-    }
-    let on = state.on.with(k);
-    let covered = nets.union(state.covered);
-    Turned { on, covered }
-}
-
-// One position of a pass: at a driver whose net is wanted, whose control cell is allowed and
-// unmarked, that control cell is turned on. Where its own net is covered, it is marked.
-fn turn(file: &[u8], table: &[u16; TABLE], rule: Rule, c: Position, state: Turned) -> Turned
+// The driver at c, if the pass stops at it: its net is wanted, and its control cell allowed.
+fn stop_at(file: &[u8], table: &[u16; TABLE], rule: Rule, earlier: &[u64], c: Position) -> Driver
     requires { ⌜ Ready (now file) (now table) ⌝ }
     requires { ⌜ c .0 < cellsOf (now file) ⌝ }
-    ensures { λ r. ⌜ Leads (boardOf (now (file .entry))) (turnBy (boardOf (now (file .entry))) rule (c .0)) state r ⌝ }
+    requires { ⌜ length (now earlier) ≡ cellWords ⌝ }
+    ensures { λ r. ⌜ r ≡ stopBy (boardOf (now (file .entry))) rule (member (now (earlier .entry))) (c .0) ⌝ }
 {
     let driver = driver_at(file, c);
     let Driver::Of(k, n) = driver else {
-        return state;
+        return driver;
     };
     if rule.wants(drivers_on(table, n)) {
-        if rule.allows(k) {
-            if state.covered.has(n) {
-                return state;
-            }
-            let nets = nets_of(file, table, k);
-            return turn_on(k, nets, state);
+        if rule.allows(earlier, k) {
+            return driver;
         }
     }
-    state
+    Driver::Nothing
 }
 
-// A pass over the highest drivers, from the highest down: at no other does it turn anything on.
+// Control cell k, whose nets these are, is on besides, unless one of them is covered. Returns the nets that
+// are covered now: a control cell is marked when one of its nets is among these.
+fn turn_on(k: Position, nets: NetSet, covered: NetSet, on: &mut [u64]) -> NetSet
+    requires { ⌜ k .0 < 64 * length (now on) ⌝ }
+    ensures { λ r. ⌜ ((b : Board) → member (nets .words) ≡ drives b (k .0) → Leads b (λ l. joined b l (k .0)) (member (now (on .entry)), member (covered .words)) (member (now (on .exit)), member (r .words))) ⌝ }
+{
+    if nets.meets(covered) {
+        return covered;
+    }
+    loops::add(on, k.0 as usize);
+    nets.union(covered)
+}
+
+// Where a pass stops at a driver, its control cell is turned on, unless it is marked: where the driver's own
+// net is covered, it is.
+fn turn(
+    file: &[u8],
+    table: &[u16; TABLE],
+    driver: Driver,
+    covered: NetSet,
+    on: &mut [u64],
+) -> NetSet
+    requires { ⌜ Ready (now file) (now table) ⌝ }
+    requires { ⌜ Stop (now file) driver ⌝ }
+    requires { ⌜ length (now on) ≡ cellWords ⌝ }
+    ensures { λ r. ⌜ Leads (boardOf (now (file .entry))) (turnTo (boardOf (now (file .entry))) driver) (member (now (on .entry)), member (covered .words)) (member (now (on .exit)), member (r .words)) ⌝ }
+{
+    let Driver::Of(k, n) = driver else {
+        return covered;
+    };
+    if covered.has(n) {
+        return covered;
+    }
+    let nets = nets_of(file, table, k);
+    turn_on(k, nets, covered, on)
+}
+
+// A pass over the highest drivers, from the highest down: at no other does it turn anything on. `earlier` are
+// the control cells that were on in an earlier group; those that the pass turns on join `on`, and their nets
+// the covered ones, which it returns.
 pub(crate) fn run_pass(
     file: &[u8],
     table: &[u16; TABLE],
-    found: usize,
     rule: Rule,
-    first: Turned,
-) -> Turned
-    requires { ⌜ Order (now file) (now table) found ⌝ }
-    ensures { λ r. ⌜ Leads (boardOf (now (file .entry))) (passBy (boardOf (now (file .entry))) rule (cellsOf (now (file .entry)))) first r ⌝ }
+    earlier: &[u64],
+    covered: NetSet,
+    on: &mut [u64],
+) -> NetSet
+    requires { ⌜ Order (now file) (now table) (rule .found) ⌝ }
+    requires { ⌜ (length (now earlier) ≡ cellWords) × (length (now on) ≡ cellWords) ⌝ }
+    ensures { λ r. ⌜ Leads (boardOf (now (file .entry))) (passBy (boardOf (now (file .entry))) rule (member (now (earlier .entry))) (cellsOf (now (file .entry)))) (member (now (on .entry)), member (covered .words)) (member (now (on .exit)), member (r .words)) ⌝ }
 {
-    let mut state = first;
-    let mut i = found;
+    let mut nets = covered;
+    let mut i = rule.found;
     while 0 < i {
         i -= 1;
         let c = Position(spare(table, i) as u16);
-        state = turn(file, table, rule, c, state);
+        let driver = stop_at(file, table, rule, earlier, c);
+        nets = turn(file, table, driver, nets, on);
     }
-    state
+    nets
 }

@@ -6,7 +6,7 @@ ghost use mathlib.Core.Bool.{xor};
 ghost use Prim.Native.Nat.{_*_, _-_, _<_, _≤_};
 ghost use Rattle.base.specs.Counting.{count, among};
 ghost use Rattle.base.specs.Tests.{seek};
-ghost use Rattle.words.specs.Sets.{netWords, cellWords, member, nothing, plus, either, unlike, meetsIn, insideIn, relationOf};
+ghost use Rattle.words.specs.Sets.{netWords, cellWords, member, nothing, plus, either, unlike, meetsIn, relationOf};
 use rules::MOST_CELLS;
 use rules::MOST_NETS;
 use rules::Net;
@@ -92,22 +92,11 @@ impl NetSet {
         loops::meets(&a, &b)
     }
 
-    // Each net of the other set is in this one.
-    pub fn holds(self, other: NetSet) -> bool
-        ensures { λ r. ⌜ r ≡ insideIn (64 * netWords) (member (other .words)) (member (self .words)) ⌝ }
+    // How the set of the words a lies to that of the words b. Both are read where they stand: neither is copied.
+    pub fn compare(a: &[u64; NET_WORDS], b: &[u64; NET_WORDS]) -> Relation
+        ensures { λ r. ⌜ r ≡ relationOf (64 * netWords) (member (now (a .entry))) (member (now (b .entry))) ⌝ }
     {
-        let a = self.words;
-        let b = other.words;
-        loops::inside(&b, &a)
-    }
-
-    // How the set lies to the other.
-    pub fn compare(self, other: NetSet) -> Relation
-        ensures { λ r. ⌜ r ≡ relationOf (64 * netWords) (member (self .words)) (member (other .words)) ⌝ }
-    {
-        let a = self.words;
-        let b = other.words;
-        loops::compare(&a, &b)
+        loops::compare(a, b)
     }
 
     // How many nets are in one set and not in the other.

@@ -55,8 +55,12 @@ fit s = cells-fit _ (checked s)
 here : (c : tie.In-loop Inv-loop μ-loop) → c .before .loop .j < cellsOf (file (c .before))
 here c = let e = start (c .before) .pre .1 .0 in let t = c .loop-test .taken in omega arith
 
+-- the other's net set gathered, before both are lent
+abbrev theirs : tie.After-sets-cross Inv-loop μ-loop → tie.After-nets-of2 Inv-loop μ-loop
+theirs c = c .before .before .before .before .before
+
 abbrev in-loop : tie.After-sets-cross Inv-loop μ-loop → tie.In-loop Inv-loop μ-loop
-in-loop c = c .before .before
+in-loop c = theirs c .before
 
 abbrev at-loop : tie.After-sets-cross Inv-loop μ-loop → tie.At-loop Inv-loop μ-loop
 at-loop c = in-loop c .before
@@ -65,7 +69,7 @@ at-loop c = in-loop c .before
 compared : (c : tie.After-sets-cross Inv-loop μ-loop) → c .sets-cross .result ≡ crosses (boardOf (file (at-loop c))) (cell (at-loop c)) (at-loop c .loop .j)
 compared c =
     let l = at-loop c in
-    c .sets-cross .ensures ∙ crosses-is _ (checked (start l)) _ _ _ _ (mine (met l) .nets-of .ensures) (c .before .nets-of2 .ensures)
+    c .sets-cross .ensures ∙ crosses-is _ (checked (start l)) _ _ _ _ (mine (met l) .nets-of .ensures) (theirs c .nets-of2 .ensures)
 
 returns-2 : tie.Need-returns-2 Inv-loop μ-loop
 returns-2 c =

@@ -4,6 +4,7 @@ use mathlib.Core.Path.{_≡_, sym, _∙_, subst}
 use mathlib.Core.Bool.{Bool}
 use borrow.Author.Needs.{needs}
 use native.Mathlib.Omega.{arith}
+use lib.ListN.{length}
 use Rattle.rules.specs.File.{Board}
 use Rattle.rules.specs.declared.Cell.{Cell}
 use Rattle.words.specs.Sets.{netWords, cellWords}
@@ -16,7 +17,7 @@ use Rattle.rows.proofs.vectors.add_bit.Tie as tie
 
 -- the places on the way: the cell was asked for, and its bit
 abbrev entry : tie.After-cell-at → tie.Start
-entry d = d .before .before .before
+entry d = d .before .before .before .before .before
 
 abbrev asked : tie.After-cell-bit → tie.After-cell-at
 asked d = d .before
@@ -27,9 +28,20 @@ cell-within s = let p = s .pre .0 in cell-fits _ (p .checked) _ (p .below)
 
 cell-bit-requires : tie.Need-cell-bit-requires
 cell-bit-requires c κs =
-    let p = entry c .pre .0 in
-    let n = out-net-bounded _ (p .checked) _ (p .below) in
-    (cell-within (entry c), subst (λ (x : Cell). outNet x < 64 * netWords) (sym (c .cell-at .ensures)) n)
+    let s = entry c in
+    let long = s .pre .1 .0 in
+    let wide = s .pre .1 .1 in
+    let within = cell-within s in
+    let n = out-net-bounded _ (s .pre .0 .checked) _ (s .pre .0 .below) in
+    let m : outNet (c .cell-at .result) < 64 * netWords = subst (λ (x : Cell). outNet x < 64 * netWords) (sym (c .cell-at .ensures)) n in
+    (omega arith, omega arith)
+
+add-requires : tie.Need-add-requires
+add-requires c κs =
+    let s = entry (asked (c .before .before .before)) in
+    let within = cell-within s in
+    let long = s .pre .1 .2 in
+    omega arith
 
 -- the bit found is the cell's
 told :
@@ -58,7 +70,7 @@ pub add-bit-spec : {M : Type 1} → statement M
 add-bit-spec =
     tie.close
     (tie.spec
-    (λ c κs. c .before .before .pre .0)
+    (λ c κs. c .before .before .before .before .pre .0)
     cell-bit-requires (λ c. search needs)
-    (λ c κs. let s = entry (asked (c .before .before .before)) in let l = cell-within s in omega (arith, s .pre .1))
+    add-requires
     (λ c. search needs) returns returns-2)

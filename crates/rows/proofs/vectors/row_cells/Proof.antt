@@ -22,25 +22,35 @@ abbrev μ-loop : tie.MeasureT-loop
 abbrev start : tie.At-loop Inv-loop μ-loop → tie.Start Inv-loop μ-loop
 start l = l .before .before
 
-cast-t9 : tie.Need-cast-t9 Inv-loop μ-loop
-cast-t9 c =
-    let p = start (c .before) .pre in
+-- the turn of the loop, from where both sets are lent
+abbrev turn : tie.After-add-bit-arg4 Inv-loop μ-loop → tie.In-loop Inv-loop μ-loop
+turn c = c .before .before .before .before .before .before
+
+-- and from where the row is lent too
+abbrev lent : tie.After-words Inv-loop μ-loop → tie.In-loop Inv-loop μ-loop
+lent c = turn (c .before)
+
+cast-t15 : tie.Need-cast-t15 Inv-loop μ-loop
+cast-t15 c =
+    let p = start (turn c .before) .pre in
     let e = p .1 in
     let f = cells-fit _ (p .0) in
-    let t = c .loop-test .taken in
+    let t = turn c .loop-test .taken in
     omega arith
 
 add-bit-requires : tie.Need-add-bit-requires Inv-loop μ-loop
 add-bit-requires c κs =
-    let p = start (c .before .before) .pre in
+    let l = lent c .before in
+    let p = start l .pre in
     let e = p .1 in
-    let t = c .before .loop-test .taken in
-    (record { checked = p .0; below = omega arith }, c .before .before .loop .inv .2)
+    let t = lent c .loop-test .taken in
+    (record { checked = p .0; below = omega arith }, (search needs, search needs, l .loop .inv .2))
 
 loop-again : tie.Need-loop-again Inv-loop μ-loop
 loop-again c =
-    let inv = c .before .before .before .before .loop .inv in
-    let t = c .before .before .before .loop-test .taken in
+    let test = lent (c .before .before) in
+    let inv = test .before .loop .inv in
+    let t = test .loop-test .taken in
     (omega arith, c .before .add-bit .ensures ∙ ap (plusIf _ _) (inv .1) ∙ up-grown _ _, search needs)
 
 returns : tie.Need-returns Inv-loop μ-loop
@@ -55,9 +65,9 @@ row-cells-spec =
     tie.close
     (tie.spec Inv-loop μ-loop
     (λ c. (omega arith, member-zeros cellWords ∙ up-none _, refl))
-    cast-t9
-    (λ c. sym (c .before .before .loop .inv .2))
+    cast-t15
+    (λ c. sym (lent c .before .loop .inv .2))
     add-bit-requires
-    (λ c. omega (arith, c .before .before .before .loop-test .taken))
-    (λ c. omega (arith, c .before .before .before .loop-test .taken))
+    (λ c. omega (arith, lent (c .before .before) .loop-test .taken))
+    (λ c. omega (arith, lent (c .before .before) .loop-test .taken))
     loop-again returns)

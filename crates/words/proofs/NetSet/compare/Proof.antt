@@ -11,6 +11,6 @@ use Rattle.words.proofs.NetSet.compare.Tie as tie
 pub compare-spec : {M : Type 1} → statement M
 compare-spec =
     tie.close
-    (tie.spec (λ c. search needs) (λ c. search needs)
+    (tie.spec
     (λ c κs. alike netWords (omega arith) (search needs) (search needs))
-    (λ c. let a : length (c .before .before .before .before .before .args .self .words) ≡ netWords = search needs in rw a at (c .compare .ensures)))
+    (λ c. let a : length (c .before .before .before .args .a .now) ≡ netWords = search needs in rw a at (c .compare .ensures)))
