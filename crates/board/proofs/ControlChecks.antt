@@ -29,7 +29,7 @@ use Rattle.chains.proofs.Walks.{cell-fits, none-keyed}
 use Rattle.chains.proofs.Brought.{own-net}
 use Rattle.board.specs.Controls.{isCrossing, pairFrom, driversAt, anyOther}
 use Rattle.board.specs.declared.controls.Crossed.the-variants.{Pair, NoPair}
-use Rattle.board.proofs.Crossings.{crossed-idle}
+use Rattle.nesting.proofs.Crossings.{driven-below, crossed-idle}
 use Rattle.board.proofs.PairLaws.{pair-found, pair-none}
 
 -- crossing is: meeting, and neither inside the other
@@ -58,17 +58,7 @@ module _ (file : List ℕ) (ok : judge (fileChecks file) ≡ Accepted) where
   abbrev board : Board
   board = boardOf file
 
-  -- a control cell's nets are on the board, and it is a control cell
-  driven-below : (k n : ℕ) → drives board k n ≡ true → n < netsOf file
-  unfolding driverOf onNet boardOf
-  driven-below k n h =
-      let c = drives-driver board k n h in
-      let e = eqb-true (netOf (board .cell (c .0))) n (left (onNet board n (c .0)) _ (c .2)) in
-      rw e at (kept-net file (whole-records file ok) (c .0) (c .1) (or-left _ (right (onNet board n (c .0)) (c .2))))
-
-  pub drives-fits : (k n : ℕ) → drives board k n ≡ true → n < mostNets
-  drives-fits k n h = let l = driven-below k n h in let f = laid file (shaped file ok) .nets .at-most in omega arith
-
+  -- a control cell with a net is one
   drives-control : (k n : ℕ) → drives board k n ≡ true → isControl board k ≡ true
   unfolding driverOf boardOf
   drives-control k n h =
@@ -81,7 +71,7 @@ module _ (file : List ℕ) (ok : judge (fileChecks file) ≡ Accepted) where
   known c l x = (kept-net file (whole-records file ok) c l (or-left _ x), kept-control file (whole-records file ok) c l x .1)
 
   past : (k i : ℕ) → netsOf file ≤ i → drives board k i ≡ false
-  past k i l = fails-if _ (λ t. let b = driven-below k i t in omega arith)
+  past k i l = fails-if _ (λ t. let b = driven-below file ok k i t in omega arith)
 
   nets-fit : netsOf file ≤ 64 * netWords
   nets-fit = let f = laid file (shaped file ok) .nets .at-most in omega arith

@@ -8,8 +8,8 @@ use Rattle.rules.specs.Drivers.{drivers}
 use Rattle.rules.specs.Refusals.{judge, each, crossing, crossed, unequal, shapeChecks, fileChecks, netChecks, controlChecks, earlyChecks, boardChecks}
 use Rattle.rules.specs.declared.Verdict.the-variants.{Accepted}
 use Rattle.rules.proofs.Verdicts.{Then, then-append, judge-passes}
-use Rattle.board.specs.Bearing.{Settled}
-use Rattle.board.proofs.LevelLaws.{settled-equal}
+use Rattle.nesting.specs.Bearing.{Settled}
+use Rattle.nesting.proofs.LevelLaws.{settled-equal}
 
 module _ (file : List ℕ) where
   -- the file's checks: its shape, then its records

@@ -1,4 +1,2 @@
--- What refusals 7 to 11 are checked by, over the table that a whole file fills.
-pub mod Nets
+-- What refusals 10 and 11 are checked by, over the table that a whole file fills.
 pub mod Controls
-pub mod Bearing

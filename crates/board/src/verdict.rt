@@ -5,12 +5,12 @@ ghost use Rattle.rules.specs.declared.Verdict.the-variants.{Accepted};
 ghost use Rattle.chains.specs.Table.{Blank};
 ghost use Rattle.chains.specs.Filling.{Filled};
 use crate::controls::controls_verdict;
-use crate::nets::nets_verdict;
 use blocks::read_sizes;
 use blocks::shape_verdict;
 use cells::records_verdict;
 use chains::TABLE;
 use chains::filling::fill_table;
+use nets::nets_verdict;
 use rules::Verdict;
 
 // Refusals 1 to 6: the file.

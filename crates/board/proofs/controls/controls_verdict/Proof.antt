@@ -2,8 +2,8 @@
 use mathlib.Core.Path.{_≡_, sym, _∙_}
 use borrow.Author.Needs.{needs}
 use Rattle.rules.specs.File.{boardOf}
-use Rattle.board.specs.Bearing.{Told}
-use Rattle.board.specs.declared.falling.Nesting.{Nesting}
+use Rattle.nesting.specs.Bearing.{Told}
+use Rattle.nesting.specs.declared.falling.Nesting.{Nesting}
 use Rattle.board.proofs.Order.{settled-accepted, uncrossed-next}
 use Rattle.board.proofs.controls.controls_verdict.Statement.{statement}
 use Rattle.board.proofs.controls.controls_verdict.Tie as tie
