@@ -13,7 +13,7 @@ use Rattle.base.proofs.BoolLaws.{decided, left, right, both, or-left, not-fails
 use Rattle.base.proofs.TestLaws.{any-at, any-member, Lowest, seek-lowest}
 use Rattle.rules.specs.File.{Board, boardOf, cellsOf, netsOf, netOf}
 use Rattle.rules.specs.Drivers.{controlled, controlFor, isControl, onNet, driverOf, drives, drivers, meets, inside, crosses}
-use Rattle.rules.specs.Refusals.{judge, crossedBy, unequal, fileChecks, mostNets}
+use Rattle.rules.specs.Refusals.{judge, crossed, crossedBy, unequal, fileChecks}
 use Rattle.rules.specs.declared.Verdict.the-variants.{Accepted}
 use Rattle.rules.proofs.NetSetLaws.{drives-driver, meets-net}
 use Rattle.rules.proofs.CrossingLaws.{parts, crossing-of, crossed-by, by-crossing, crossed-none}
@@ -29,8 +29,13 @@ use Rattle.chains.proofs.Walks.{cell-fits, none-keyed}
 use Rattle.chains.proofs.Brought.{own-net}
 use Rattle.board.specs.Controls.{isCrossing, pairFrom, driversAt, anyOther}
 use Rattle.board.specs.declared.controls.Crossed.the-variants.{Pair, NoPair}
-use Rattle.nesting.proofs.Crossings.{driven-below, crossed-idle}
+use Rattle.nesting.proofs.ControlNets.{idle-none, driven-below}
 use Rattle.board.proofs.PairLaws.{pair-found, pair-none}
+
+-- a control cell that switches nothing crosses none
+crossed-idle : (b : Board) (i : ℕ) → ((c : ℕ) → c < b .size → keyed b ControlCell i c ≡ false) → crossed b i ≡ false
+crossed-idle b i none =
+    crossed-none b i (λ j l m t. let n = meets-net b i j (parts b i j t .meet) in idle-none b i none (n .0) (n .2))
 
 -- crossing is: meeting, and neither inside the other
 crossing-by : (x y z : Bool) → isCrossing (relationBy x y z) ≡ (z && not x && not y)
@@ -58,7 +63,7 @@ module _ (file : List ℕ) (ok : judge (fileChecks file) ≡ Accepted) where
   abbrev board : Board
   board = boardOf file
 
-  -- a control cell with a net is one
+  -- what switches a net is a control cell
   drives-control : (k n : ℕ) → drives board k n ≡ true → isControl board k ≡ true
   unfolding driverOf boardOf
   drives-control k n h =

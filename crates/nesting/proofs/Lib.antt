@@ -1,5 +1,5 @@
--- The laws that the functions of this crate share.
-pub mod Crossings
+-- The laws that the functions of this crate share, and its callers.
+pub mod ControlNets
 pub mod BearingLaws
 pub mod HeadLaws
 pub mod LevelLaws

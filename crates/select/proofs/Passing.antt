@@ -148,7 +148,7 @@ module _ (file t : List ℕ) (ready : Ready file t) (c : ℕ) (l : c < cellsOf f
       rw (d .1) at (marked-reached (boardOf file) nets-bounded known on c l (d .0))
 
 -- a group at its start, and at its end
-pub holds-none : (b : Board) (turned : Turned) → turned .0 ≡ nothing → turned .1 ≡ nothing → Holds b [] turned
+pub holds-none : (b : Board) (turned : Turned) → turned .on ≡ nothing → turned .covered ≡ nothing → Holds b [] turned
 unfolding has coveredBy
 holds-none b turned e f = record { on-are = e; covered-are = f }
 
@@ -157,7 +157,7 @@ abbrev passes : Board → ℕ → (ℕ → Bool) → ℕ → List ℕ
 passes b g f size = pass b (wantedIn b Second g) (allowedIn Second f) size (pass b (wantedIn b First g) (allowedIn First f) size [])
 
 pub selected-is : (b : Board) (g : ℕ) (used : List ℕ) (f : ℕ → Bool) (size : ℕ) (turned : Turned) → f ≡ listed used → size ≡ b .size
-    → Holds b (passes b g f size) turned → turned .0 ≡ listed (selected b g used)
+    → Holds b (passes b g f size) turned → turned .on ≡ listed (selected b g used)
 unfolding selected firstPass secondPass wantedIn wantedAt allowedIn
 selected-is b g used f size turned e s h =
     h .on-are ∙ ap (λ (x : ℕ). listed (passes b g f x)) s ∙ ap (λ (t : ℕ → Bool). listed (passes b g t (b .size))) e

@@ -15,7 +15,8 @@ use Rattle.rules.specs.declared.Net.{Net}
 use Rattle.rules.specs.declared.Position.{Position}
 use Rattle.rules.specs.declared.Driver.{Driver}
 use Rattle.rules.specs.declared.Driver.the-variants.{Of, Nothing}
-use Rattle.words.specs.Sets.{netWords, meetsIn}
+use Rattle.words.specs.Sets.{netWords, member, meetsIn}
+use Rattle.words.specs.declared.NetSet.{NetSet}
 use Rattle.chains.specs.Table.{ControlCell, tableSize}
 use Rattle.chains.specs.Chains.{Chains}
 use Rattle.chains.specs.Counts.{Counted}
@@ -36,16 +37,16 @@ unfoldable pub allowedIn : Pass → (ℕ → Bool) → ℕ → Bool
 allowedIn First used k = not (used k)
 allowedIn Second used k = true
 
--- a driver, if the pass stops at it: "a kind 3 output whose net has degree ..., whose control cell ... was on in no earlier group"
+-- a driver, if the pass stops at it: its net is wanted, and its control cell allowed
 unfoldable pub stopping : (ℕ → Bool) → (ℕ → Bool) → Driver → Driver
 stopping wanted allowed (Of k n) = cond (wanted (n .0) && allowed (k .0)) (Of k n) Nothing
 stopping wanted allowed Nothing = Nothing
 
--- the driver at c, if the pass that goes by a rule stops at it, and that pass over the positions below c; `used` are the control cells that
--- were on in an earlier group
+-- the driver at c, if the pass that goes by a rule stops at it; `used` are the control cells that were on in an earlier group
 abbrev pub stopBy : Board → Rule → (ℕ → Bool) → ℕ → Driver
 stopBy b rule used c = stopping (wantedIn b (rule .which) (rule .group)) (allowedIn (rule .which) used) (driverAt b c)
 
+-- that pass over the positions below c
 abbrev pub passBy : Board → Rule → (ℕ → Bool) → ℕ → List ℕ → List ℕ
 passBy b rule used c on = pass b (wantedIn b (rule .which) (rule .group)) (allowedIn (rule .which) used) c on
 
@@ -54,9 +55,9 @@ unfoldable pub turnTo : Board → Driver → List ℕ → List ℕ
 turnTo b (Of k n) on = cond (marked b on (k .0)) on (k .0 ∷ on)
 turnTo b Nothing on = on
 
--- what a pass may stop at: a driver of the board, or nothing
-abbrev pub Stop : List ℕ → Driver → Type 0
-Stop file driver = (k : Position) (n : Net) → driver ≡ Of k n → (c : ℕ) × (c < cellsOf file) × (driverAt (boardOf file) c ≡ Of k n)
+-- a driver that some cell of the file is, or nothing
+abbrev pub OnBoard : List ℕ → Driver → Type 0
+OnBoard file driver = (k : Position) (n : Net) → driver ≡ Of k n → (c : ℕ) × (c < cellsOf file) × (driverAt (boardOf file) c ≡ Of k n)
 
 -- the nets of the control cells that are on
 unfoldable pub coveredBy : Board → List ℕ → ℕ → Bool
@@ -75,14 +76,19 @@ joined b on k = cond (reached b on k) on (k ∷ on)
 abbrev pub listed : List ℕ → ℕ → Bool
 listed on k = has k on
 
--- what a pass has done so far, as two sets: the control cells that are on, and the nets that they cover
-abbrev pub Turned : Type 0
-Turned = (ℕ → Bool) × (ℕ → Bool)
+-- what a pass has done so far, as two sets
+pub record Turned : Type 0 where
+  pub on : ℕ → Bool
+  pub covered : ℕ → Bool
 
--- the sets are those of the control cells that are on
+-- these words are the control cells that are on, and these nets are covered
+abbrev pub turnedAs : List ℕ → NetSet → Turned
+turnedAs words nets = record { on = member words; covered = member (nets .words) }
+
+-- the sets are the control cells of a list, and their nets
 pub record Holds (b : Board) (on : List ℕ) (turned : Turned) : Type 0 where
-  pub on-are : turned .0 ≡ listed on
-  pub covered-are : turned .1 ≡ coveredBy b on
+  pub on-are : turned .on ≡ listed on
+  pub covered-are : turned .covered ≡ coveredBy b on
 
 -- whatever list the sets of `from` hold, those of `to` hold what f makes of it
 abbrev pub Leads : Board → (List ℕ → List ℕ) → Turned → Turned → Type 0

@@ -5,7 +5,7 @@ ghost use lib.ListN.{length};
 ghost use Rattle.rules.specs.File.{Board, boardOf, cellsOf};
 ghost use Rattle.rules.specs.Drivers.{drives};
 ghost use Rattle.words.specs.Sets.{cellWords, member};
-ghost use Rattle.select.specs.Turns.{wantedAt, allowedIn, stopBy, turnTo, passBy, joined, Ready, Stop, Leads};
+ghost use Rattle.select.specs.Turns.{wantedAt, allowedIn, stopBy, turnTo, passBy, joined, turnedAs, Ready, OnBoard, Leads};
 ghost use Rattle.select.specs.Highest.{Order};
 use cells::driver_at;
 use chains::TABLE;
@@ -23,7 +23,8 @@ pub enum Pass {
     Second,
 }
 
-// What a pass goes by: which of the two it is, of which group, and how many highest drivers the table holds.
+// What a pass goes by: which of the two it is, of which group, and over how many highest drivers, those that
+// the table holds.
 pub struct Rule {
     pub which: Pass,
     pub group: usize,
@@ -78,7 +79,7 @@ fn stop_at(file: &[u8], table: &[u16; TABLE], rule: Rule, earlier: &[u64], c: Po
 // are covered now: a control cell is marked when one of its nets is among these.
 fn turn_on(k: Position, nets: NetSet, covered: NetSet, on: &mut [u64]) -> NetSet
     requires { ⌜ k .0 < 64 * length (now on) ⌝ }
-    ensures { λ r. ⌜ ((b : Board) → member (nets .words) ≡ drives b (k .0) → Leads b (λ l. joined b l (k .0)) (member (now (on .entry)), member (covered .words)) (member (now (on .exit)), member (r .words))) ⌝ }
+    ensures { λ r. ⌜ ((b : Board) → member (nets .words) ≡ drives b (k .0) → Leads b (λ l. joined b l (k .0)) (turnedAs (now (on .entry)) covered) (turnedAs (now (on .exit)) r)) ⌝ }
 {
     if nets.meets(covered) {
         return covered;
@@ -87,8 +88,9 @@ fn turn_on(k: Position, nets: NetSet, covered: NetSet, on: &mut [u64]) -> NetSet
     nets.union(covered)
 }
 
-// Where a pass stops at a driver, its control cell is turned on, unless it is marked: where the driver's own
-// net is covered, it is.
+// Where a pass stops at a driver, its control cell is turned on, unless it is marked. Where the driver's own
+// net is covered its control cell is marked, and its nets need not be gathered. Returns the nets that are
+// covered now.
 fn turn(
     file: &[u8],
     table: &[u16; TABLE],
@@ -97,9 +99,9 @@ fn turn(
     on: &mut [u64],
 ) -> NetSet
     requires { ⌜ Ready (now file) (now table) ⌝ }
-    requires { ⌜ Stop (now file) driver ⌝ }
+    requires { ⌜ OnBoard (now file) driver ⌝ }
     requires { ⌜ length (now on) ≡ cellWords ⌝ }
-    ensures { λ r. ⌜ Leads (boardOf (now (file .entry))) (turnTo (boardOf (now (file .entry))) driver) (member (now (on .entry)), member (covered .words)) (member (now (on .exit)), member (r .words)) ⌝ }
+    ensures { λ r. ⌜ Leads (boardOf (now (file .entry))) (turnTo (boardOf (now (file .entry))) driver) (turnedAs (now (on .entry)) covered) (turnedAs (now (on .exit)) r) ⌝ }
 {
     let Driver::Of(k, n) = driver else {
         return covered;
@@ -124,7 +126,7 @@ pub(crate) fn run_pass(
 ) -> NetSet
     requires { ⌜ Order (now file) (now table) (rule .found) ⌝ }
     requires { ⌜ (length (now earlier) ≡ cellWords) × (length (now on) ≡ cellWords) ⌝ }
-    ensures { λ r. ⌜ Leads (boardOf (now (file .entry))) (passBy (boardOf (now (file .entry))) rule (member (now (earlier .entry))) (cellsOf (now (file .entry)))) (member (now (on .entry)), member (covered .words)) (member (now (on .exit)), member (r .words)) ⌝ }
+    ensures { λ r. ⌜ Leads (boardOf (now (file .entry))) (passBy (boardOf (now (file .entry))) rule (member (now (earlier .entry))) (cellsOf (now (file .entry)))) (turnedAs (now (on .entry)) covered) (turnedAs (now (on .exit)) r) ⌝ }
 {
     let mut nets = covered;
     let mut i = rule.found;

@@ -1,5 +1,5 @@
-// Sets of nets and of cells, as bits of `u64` words. Each is a thin value over `loops`;
-// what its words mean is `member` of specs/Sets.antt.
+// Sets of nets and of cells, as bits of `u64` words. Each is a thin value over `loops`, but for `compare`,
+// which is lent the words of both sets; what words mean is `member` of specs/Sets.antt.
 
 ghost use mathlib.Core.Path.{_≡_};
 ghost use mathlib.Core.Bool.{xor};
@@ -141,15 +141,6 @@ impl CellSet {
         let mut words = self.words;
         loops::add(&mut words, p.0 as usize);
         CellSet { words }
-    }
-
-    // Cell p is in the set.
-    pub fn has(self, p: Position) -> bool
-        requires { ⌜ p .0 < 64 * cellWords ⌝ }
-        ensures { λ r. ⌜ r ≡ member (self .words) (p .0) ⌝ }
-    {
-        let words = self.words;
-        loops::has(&words, p.0 as usize)
     }
 
     // The cells of both sets.

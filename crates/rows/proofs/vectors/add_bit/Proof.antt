@@ -4,7 +4,6 @@ use mathlib.Core.Path.{_≡_, sym, _∙_, subst}
 use mathlib.Core.Bool.{Bool}
 use borrow.Author.Needs.{needs}
 use native.Mathlib.Omega.{arith}
-use lib.ListN.{length}
 use Rattle.rules.specs.File.{Board}
 use Rattle.rules.specs.declared.Cell.{Cell}
 use Rattle.words.specs.Sets.{netWords, cellWords}

@@ -1,5 +1,5 @@
 -- By the kind of the cell.
-use Prim.Native.Nat.{ℕ, _*_, _<_}
+use Prim.Native.Nat.{ℕ, _<_}
 use mathlib.Core.Path.{_≡_, subst}
 use borrow.Author.Needs.{needs}
 use Rattle.rules.specs.declared.Cell.{Cell}

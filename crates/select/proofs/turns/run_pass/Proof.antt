@@ -10,7 +10,7 @@ use Rattle.rules.specs.File.{boardOf, cellsOf}
 use Rattle.rules.specs.declared.Driver.{Driver}
 use Rattle.words.specs.Sets.{cellWords, member}
 use Rattle.select.specs.declared.turns.Rule.{Rule}
-use Rattle.select.specs.Turns.{wantedIn, allowedIn, turnTo, Holds}
+use Rattle.select.specs.Turns.{wantedIn, allowedIn, turnTo, turnedAs, Holds}
 use Rattle.select.specs.Highest.{backwards, passOver}
 use Rattle.select.proofs.Passing.{holds-same, turn-is, stopped}
 use Rattle.select.proofs.Ordering.{ready-fits, place, over-end, over-step, over-all}
@@ -24,8 +24,8 @@ over file t rule used i on = passOver (boardOf file) (wantedIn (boardOf file) (r
 abbrev Inv-loop : tie.InvT-loop
 Inv-loop file table rule earlier on₀ nets₀ i₀ on nets i =
     (i ≤ rule .found) × (length on ≡ cellWords)
-    × ((l : List ℕ) → Holds (boardOf file) l (member on₀, member (nets₀ .words))
-    → (now : List ℕ) × Holds (boardOf file) now (member on, member (nets .words)) × (over file table rule (member earlier) i now ≡ over file table rule (member earlier) (rule .found) l))
+    × ((l : List ℕ) → Holds (boardOf file) l (turnedAs on₀ nets₀)
+    → (now : List ℕ) × Holds (boardOf file) now (turnedAs on nets) × (over file table rule (member earlier) i now ≡ over file table rule (member earlier) (rule .found) l))
 
 abbrev μ-loop : tie.MeasureT-loop
 μ-loop file table rule earlier on₀ nets₀ i₀ on nets i = i

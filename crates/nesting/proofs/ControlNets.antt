@@ -1,4 +1,4 @@
--- A control cell that switches nothing crosses none, and the nets of one that switches something are on the board.
+-- Which nets a control cell can have: none where it switches nothing, and only those of the board.
 use Prim.Native.Nat.{ℕ, _<_}
 use mathlib.Core.Path.{_≡_, _∙_}
 use mathlib.Core.Bool.{true, false}
@@ -8,10 +8,9 @@ use borrow.Author.Tests.{eqb-true, eq-eqb}
 use Rattle.base.proofs.BoolLaws.{left, right, both, or-left, clashes}
 use Rattle.rules.specs.File.{Board, boardOf, netsOf, netOf}
 use Rattle.rules.specs.Drivers.{onNet, driverOf, drives}
-use Rattle.rules.specs.Refusals.{judge, crossed, fileChecks, mostNets}
+use Rattle.rules.specs.Refusals.{judge, fileChecks, mostNets}
 use Rattle.rules.specs.declared.Verdict.the-variants.{Accepted}
-use Rattle.rules.proofs.NetSetLaws.{meets-net, drives-driver}
-use Rattle.rules.proofs.CrossingLaws.{parts, crossed-none}
+use Rattle.rules.proofs.NetSetLaws.{drives-driver}
 use Rattle.rules.proofs.Shape.{laid, shaped, whole-records}
 use Rattle.rules.proofs.DriverLaws.{kept-net}
 use Rattle.chains.specs.Table.{ControlCell}
@@ -19,16 +18,12 @@ use Rattle.chains.specs.Chains.{keyed}
 use Rattle.chains.proofs.Chaining.{keyed-control}
 
 module _ (b : Board) where
-  -- it has no net
+  -- one that switches nothing has no net
   pub idle-none : (i : ℕ) → ((c : ℕ) → c < b .size → keyed b ControlCell i c ≡ false) → (n : ℕ) → drives b i n ≡ true → ⊥
   unfolding driverOf
   idle-none i none n t =
       let c = drives-driver b i n t in
       clashes (keyed-control b i (c .0) ∙ both (right (onNet b n (c .0)) (c .2)) (eq-eqb _ _ (c .3))) (none (c .0) (c .1))
-
-  pub crossed-idle : (i : ℕ) → ((c : ℕ) → c < b .size → keyed b ControlCell i c ≡ false) → crossed b i ≡ false
-  crossed-idle i none =
-      crossed-none b i (λ j l m t. let n = meets-net b i j (parts b i j t .meet) in idle-none i none (n .0) (n .2))
 
 module _ (file : List ℕ) (ok : judge (fileChecks file) ≡ Accepted) where
   -- a control cell's nets are on the board
