@@ -117,6 +117,7 @@ AllSay b [] = Unit
 AllSay b (check ∷ checks) = ((place : ℕ) → Applies check place → Says b (check.says place)) × (Passes check → AllSay b checks)
 
 first_says : (b : Board) (checks : List Check) → AllSay b checks → (r : Refusal) → First r checks → Says b r
+first_says b [] all r x = elim x [ ]
 first_says b (check ∷ checks) all r (here place a e) = rw e at (all.0 place a)
 first_says b (check ∷ checks) all r (later p first) = first_says b checks (all.1 p) r first
 

@@ -130,6 +130,7 @@ refused-exactly file e = (kept, λ broken. go broken (judge (board_checks file))
     which : (r : Refusal) → First r (control_checks (board_of file)) → (r.number ≡ 10) ⊎ (r.number ≡ 11)
     which r (here place a x) = inl (ap (λ (s : Refusal). s.number) (sym x))
     which r (later p (here place a x)) = inr (ap (λ (s : Refusal). s.number) (sym x))
+    which r (later p (later _ x)) = elim x [ ]
 
     go : (Requirement (board_of file) → ⊥) → (v : Verdict) → judge (board_checks file) ≡ v → (number_of v ≡ 10) ⊎ (number_of v ≡ 11)
     go broken Accepted q = absurd (broken ((accepted-exactly file e).0 q))

@@ -86,6 +86,7 @@ accepted (check ∷ checks) h = judge-passes check checks h.0 ∙ accepted check
 
 -- refused exactly where the first check that applies says that refusal, of the lowest place at which it applies
 pub first-given : (checks : List Check) {r : Refusal} → First r checks → judge checks ≡ Refused r
+first-given [] {r = r} x = elim x [ ]
 first-given (check ∷ checks) (here place h e) = judge-applies check checks h ∙ ap Refused e
 first-given (check ∷ checks) (later h first) = judge-passes check checks h ∙ first-given checks first
 

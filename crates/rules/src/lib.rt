@@ -1,5 +1,7 @@
 // The limits and the types that every part of the way shares, named as in the documents, and how a check
 // answers. The types hold no rule: what each value means stands in specs/.
+#![tactic(auto)]
+
 ghost use Rattle.std.specs.Prelude.{◌≡◌, [], ◌∷◌, ◌≤◌};
 ghost use Rattle.rules.specs.File.{most_number};
 ghost use Rattle.rules.specs.Refusals.{judge, once, refuse, paired};

@@ -1,6 +1,8 @@
 // Sets of nets and of cells, as bits of `u64` words. Each is a thin value over `loops`, but for `compare`,
 // which is lent the words of both sets; what words mean is `member` of specs/Sets.antt.
 
+#![tactic(auto)]
+
 ghost use Rattle.std.specs.Prelude.{◌≡◌, ◌*◌, ◌-◌, ◌<◌, ◌≤◌};
 ghost use Rattle.std.specs.Bool.{xor};
 ghost use Rattle.base.specs.Counting.{count, among};
