@@ -120,6 +120,10 @@ class File:
         self.info = info
         self.said = said
         self.navs = {}
+        self.seen_places = set()
+        self.goal = None
+        self.helpers = {}
+        self.copies = {}
         self.text = text
 
     # ---- expressions
@@ -219,7 +223,7 @@ class File:
             a = self.place_expr(s, j, env)
             if not a or a[0] >= len(s) or s[a[0]] != ")":
                 return None
-            return (a[0] + 1, a[1], self.navs[nav], f"({nav} {self.bare(a)})")
+            return (a[0] + 1, a[1], self.navs[nav], None, a[4])
         m = ID.match(s, i)
         if not m or m.group() not in env or (i and (s[i - 1].isalnum() or s[i - 1] in "_.'-")):
             return None
@@ -230,30 +234,32 @@ class File:
 
     def bare(self, a):
         """An earlier place passed on whole."""
-        if a[3]:
-            return a[3]
-        al = a[4] if len(a) > 4 else None
-        frm = al.frm if al and hasattr(al, "frm") else None
-        if frm is None:
+        frm = a[4].frm
+        if frm == a[2]:
             return a[1]
-        n = self.info.chain(frm, a[2])
-        if n is None:
+        if self.info.chain(frm, a[2]) is None:
             self.said(f"no way from {frm} to {a[2]}")
-            return a[1]
-        return a[1] + ".before" * n
+        self.seen_places.add(self.info.new[a[2]])
+        if self.goal:
+            return f"(goal.at.{self.goal} {a[1]}).{self.info.new[a[2]]}"
+        self.said(f"a helper passes on {self.info.new[a[2]]} from {self.info.new[frm]}")
+        return a[1]
 
     def place_expr(self, s, i, env):
         """A place expression with its .befores."""
         a = self.atom(s, i, env)
         if not a:
+            m = ID.match(s, i)
+            if m and m.group() in self.navs and m.group() not in env and s[m.end() : m.end() + 1] == " " and (i == 0 or not (s[i - 1].isalnum() or s[i - 1] in "_.'-")):
+                b = self.place_expr(s, m.end() + 1, env)
+                if b and not FIELD.match(s, b[0]):
+                    return (b[0], b[1], self.navs[m.group()], None, b[4])
+        if not a:
             return None
-        end, root, place, text = a[:4]
-        al = a[4] if len(a) > 4 else None
+        end, root, place, text, al = a
         while s.startswith(".before", end) and not re.match(r"[A-Za-z0-9_'-]", s[end + 7 : end + 8] or " "):
             end += 7
             place = self.info.parent.get(place)
-            if text:
-                text += ".before"
             if place is None:
                 self.said("a .before past the start")
                 return None
@@ -291,10 +297,7 @@ class File:
                     t = re.compile(r"\s+in\b").match(s, k)
                     if t and not fs:
                         al = Alias(e[1], e[2])
-                        al.frm = e[4].frm if e[4] is not None else None
-                        al.nav = e[3]
-                        if e[3]:
-                            al.text = e[3]
+                        al.frm = e[4].frm
                         env[m.group(1)] = al
                         i = t.end()
                         i = self.drop_space(s, i, out)
@@ -308,6 +311,20 @@ class File:
                             i = t.end()
                             i = self.drop_space(s, i, out)
                             continue
+            m = ID.match(s, i)
+            if m and m.group() in self.helpers and m.group() not in env and s[m.end() : m.end() + 1] == " ":
+                e = self.place_expr(s, m.end() + 1, env)
+                if e and not FIELD.match(s, e[0]):
+                    place, path, _ = self.helpers[m.group()]
+                    if path is not None:
+                        out.append(e[1] + path)
+                    elif e[4].frm == place or self.goal:
+                        out.append(m.group() + " " + self.bare(e))
+                    else:
+                        self.copies.setdefault(m.group(), set()).add(e[4].frm)
+                        out.append(m.group() + "-" + self.info.new[e[4].frm] + " " + e[1])
+                    i = e[0]
+                    continue
             e = self.place_expr(s, i, env) if (s[i] == "(" or ID.match(s, i)) else None
             if e:
                 k = e[0]
@@ -361,11 +378,6 @@ class File:
         return m.end()
 
     def bare_use(self, e):
-        al = e[4]
-        if e[3]:
-            return e[3]
-        if al is not None and getattr(al, "text", None):
-            return "(" + al.text.strip("()") + ")" if " " in al.text else al.text
         return self.bare(e)
 
     # ---- types
@@ -385,7 +397,8 @@ class File:
         def place(m):
             n = norm(m.group(1))
             if n in self.info.new:
-                return "goal." + self.info.new[n]
+                self.seen_places.add(self.info.new[n])
+                return self.info.new[n]
             self.said(f"no place {m.group(1)}")
             return m.group()
 
@@ -510,6 +523,21 @@ def convert(path, info, said):
             pl, res = binder_places(f, sig)
             if res:
                 f.navs[mm.group(1)] = res
+            elif pl and pl[0] and f.need_of(sig) is None:
+                f.helpers[mm.group(1)] = [pl[0], None, b]
+    for name, h in f.helpers.items():
+        body = "\n".join(l for l in h[2].split("\n") if not l.startswith("--"))
+        eq = re.search(r"^" + re.escape(name) + r" (" + IDENT + r") =(.*)$", body, re.M | re.S)
+        if eq and not re.search(r"^unfolding", body, re.M):
+            al = Alias(eq.group(1), h[0])
+            al.frm = h[0]
+            quiet, f.said = f.said, lambda t: None
+            text = f.rewrite(eq.group(2), {eq.group(1): al}).strip()
+            f.said = quiet
+            mm = re.fullmatch(re.escape(eq.group(1)) + r"((?:\.[A-Za-z0-9_'-]+)+)", text)
+            if mm:
+                h[1] = mm.group(1)
+    f.copies = {}
     inv_out, ans_out = [], []
     used = {}
     for k, a in enumerate(args[: len(info.needs)]):
@@ -547,13 +575,16 @@ def convert(path, info, said):
             inv_out.append("\n".join(com + [f"abbrev pub {new} : goal.{new}"] + unf + [f"{new} l ={rhs}"]))
     # answers, in the order of the old file, then the inline ones
     done = set()
+    helper_out = []
 
     def answer(k, com, unf, binder, body, rest=""):
         place = info.at[k]
         new = info.needs[k][1]
+        f.goal = new
         al = Alias(binder, place)
         al.frm = place
         text = f.types(f.rewrite(body, {binder: al}))
+        f.goal = None
         names = info.asked.get(info.needs[k][0])
         if names and len(names) > 1:
             r = to_record(text, names)
@@ -613,21 +644,13 @@ def convert(path, info, said):
                             al = Alias(x, p)
                             al.frm = p
                             env[x] = al
-        if name and name in f.navs and re.search(r"^" + re.escape(name) + r" " + IDENT + r" = [A-Za-z0-9_.' ()-]*$", body.strip(), re.M):
-            # a navigator: its way is read off the places
-            eq = re.search(r"^" + re.escape(name) + r" (" + IDENT + r") = (.*)$", body, re.M)
-            x = eq.group(1)
-            if x in env:
-                e = f.place_expr(eq.group(2), 0, env)
-                target = f.navs[name]
-                n = info.chain(env[x].place, target)
-                if n is None:
-                    said(f"no way for {name}")
-                else:
-                    sigline = f.types(body[: body.index("\n" + name + " ")])
-                    ans_out.append("\n".join(com + [sigline, f"{name} {x} = {x}" + ".before" * n]))
-                    continue
+        if name and name in f.navs:
+            continue
+        if name and name in f.helpers and f.helpers[name][1] is not None:
+            continue
+        helper_out.append((name, len(ans_out), body, env, com))
         ans_out.append("\n".join(com + [f.types(f.rewrite(body, env))]))
+    spec_unf = [l for l in spec.split("\n") if l.startswith("unfolding")]
     for k, a in enumerate(args[: len(info.needs)]):
         if k in done:
             continue
@@ -640,13 +663,62 @@ def convert(path, info, said):
                 continue
             said(f"{info.needs[k][1]}: {a[:80]}")
             continue
-        answer(k, [], [], eq.group(1), " " + eq.group(3).strip())
+        if re.fullmatch(r"\s*search rules\s*", eq.group(3)):
+            continue
+        answer(k, [], spec_unf, eq.group(1), " " + eq.group(3).strip())
     for name, ks in used.items():
         if name in named and f.need_of(named[name]) is None:
             for k in ks:
                 new = info.needs[k][1]
                 ans_out.append(f"pub {new} : goal.{new}\n{new} c = {name} c")
-    return header, module, inv_out, ans_out
+    made = {}
+    more = True
+    while more:
+        more = False
+        for name, froms in list(f.copies.items()):
+            for frm in sorted(froms):
+                if (name, frm) in made:
+                    continue
+                more = True
+                _, _, body, env, com = next(h for h in helper_out if h[0] == name)
+                copy = name + "-" + info.new[frm]
+                env2 = {}
+                for x, al in env.items():
+                    a2 = Alias(x, al.place)
+                    a2.frm = frm if al.place == f.helpers[name][0] else al.frm
+                    env2[x] = a2
+                text = f.rewrite(body, env2)
+                text = re.sub(r"^((?:(?:abbrev|pub) )*)" + re.escape(name) + r"(?= )", lambda m: m.group(1) + copy, text, flags=re.M)
+                old = info.new[f.helpers[name][0]]
+                f.seen_places.add(info.new[frm])
+                text = f.types(text).replace(old, info.new[frm], 1)
+                made[(name, frm)] = text
+    for (name, frm), text in made.items():
+        k = next((k for k, b in enumerate(ans_out) if re.search(r"^(?:(?:abbrev|pub) )*" + re.escape(name) + r" ", b, re.M)), None)
+        ans_out[k] += "\n\n" + text
+    f.seen_places = {p for p in f.seen_places if re.search(r"(?<![A-Za-z0-9_'.-])" + re.escape(p) + r"(?![A-Za-z0-9_'-])|\)\." + re.escape(p) + r"(?![A-Za-z0-9_'-])", "\n".join(ans_out))}
+    # what an invariant says by a definition of the file goes with it
+    moved = True
+    shared = []
+    while moved:
+        moved = False
+        for b in list(ans_out):
+            body = "\n".join(l for l in b.split("\n") if not l.startswith("--"))
+            mm = re.match(r"(?:(?:abbrev|pub|unfoldable|record) )*(" + IDENT + r")\b", body)
+            name = mm.group(1) if mm else None
+            if name and re.search(r"(?<![A-Za-z0-9_.'-])" + re.escape(name) + r"(?![A-Za-z0-9_'-])", "\n".join(inv_out)) and "goal." not in body:
+                ans_out.remove(b)
+                lines_ = b.split("\n")
+                for i_, l_ in enumerate(lines_):
+                    if not l_.startswith("--"):
+                        if not re.match(r"(abbrev |unfoldable )*pub ", l_):
+                            m2 = re.match(r"((?:abbrev |unfoldable )*)(.*)$", l_)
+                            lines_[i_] = m2.group(1) + "pub " + m2.group(2)
+                        break
+                inv_out.insert(0, "\n".join(lines_))
+                shared.insert(0, name)
+                moved = True
+    return header, module, inv_out, ans_out, sorted(f.seen_places), shared
 
 
 def imports(header, body):
@@ -694,7 +766,7 @@ def main():
             continue
         if r is None:
             continue
-        header, module, inv, ans = r
+        header, module, inv, ans, places, shared = r
         os.remove(os.path.join(folder, "Proof.antt"))
         if inv:
             body = "\n\n".join(inv)
@@ -707,7 +779,10 @@ def main():
             com = [l for l in header if l.startswith("--")]
             uses = [l for l in imports([l for l in header if not l.startswith("--")], body) if l.startswith("use")]
             with open(os.path.join(folder, "Answers.antt"), "w") as fh:
-                fh.write("\n".join(com + uses + [f"use {module}.Goals as goal"]) + "\n\n" + body + "\n")
+                more = [f"use {module}.Goals.{{{', '.join(places)}}}"] if places else []
+                shared = [s for s in shared if re.search(r"(?<![A-Za-z0-9_.'-])" + re.escape(s) + r"(?![A-Za-z0-9_'-])", body)]
+                more += [f"use {module}.Invariants.{{{', '.join(shared)}}}"] if shared else []
+                fh.write("\n".join(com + uses + [f"use {module}.Goals as goal"] + more) + "\n\n" + body + "\n")
 
 
 if __name__ == "__main__":

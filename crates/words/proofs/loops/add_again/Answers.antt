@@ -5,7 +5,6 @@ use mathlib.Core.Logic.{⊎_elim}
 use mathlib.Core.Bool.{Bool, true, false, ◌||◌, or-false}
 use native.Mathlib.Nat.{two-pow-succ}
 use native.Mathlib.Omega.{arith}
-use borrow.Author.Rules.{rules}
 use borrow.Author.Tests.{eqb-true, eq-eqb}
 use lib.Bits.{bit_or, or_lt}
 use lib.Dec.{eqb}
@@ -17,8 +16,7 @@ use Rattle.base.proofs.DigitLaws.{bits-equal}
 use Rattle.base.proofs.WordLaws.{bit-or, bit-pow, one_shifted}
 use Rattle.words.specs.Sets.{member}
 use Rattle.words.proofs.SetLaws.{member-plus}
-use Rattle.words.proofs.loops.add_again.Statement.{statement}
-use Rattle.words.proofs.loops.add_again.Tie as tie
+use Rattle.words.proofs.loops.add_again.Goals as goal
 
 -- a word with digit k besides has the same digits where it had digit k before
 same_digits : (w k : ℕ) → bit w k ≡ true → (j : ℕ) → bit (bit_or w (2 ^ k)) j ≡ bit w j
@@ -37,18 +35,10 @@ has-digit w k l h =
     (λ t. ap (λ (v : ℕ). bit v k) (sym (eqb-true (bit_or w (2 ^ k)) w t)) ∙ bit-or w (2 ^ k) k ∙ or_right (bit w k) (bit-pow k k ∙ eq-eqb k k refl))
     (λ t. eq-eqb (bit_or w (2 ^ k)) w (bits-equal 64 (bit_or w (2 ^ k)) w (or_lt 64 w (2 ^ k) l fits) l (λ j m. same_digits w k t j)))
 
-returns : tie.Need-returns
+pub returns : goal.returns
 unfolding member
 returns c =
-    let i = c.before.args.i in
-    let ws = c.before.args.words.now in
+    let i = c.args.i in
+    let ws = c.args.words.now in
     let word = get_or ws (i / 64) 0 in
-    let one = one_shifted 64 (i % 64) (omega arith) in (
-      ap (λ (x : ℕ). eqb (bit_or word x) word) one ∙ has-digit word (i % 64) (c.slice-known.given (i / 64)).fits (omega arith),
-      ap (λ (x : ℕ). member (set ws (i / 64) (bit_or word x))) one ∙ member-plus ws i c.before.requires,
-    )
-
-pub add-again-spec : {M : Type 1} → statement M
-add-again-spec =
-    tie.close
-    (tie.spec (λ c. search rules) (λ c. search rules) (λ c. search rules) (λ c. search rules) (λ c. search rules) (λ c. search rules) returns)
+    let one = one_shifted 64 (i % 64) (omega arith) in record { value = ap (λ (x : ℕ). eqb (bit_or word x) word) one ∙ has-digit word (i % 64) (c.slice_known-1.given (i / 64)).fits (omega arith); words_after = ap (λ (x : ℕ). member (set ws (i / 64) (bit_or word x))) one ∙ member-plus ws i c.requires }

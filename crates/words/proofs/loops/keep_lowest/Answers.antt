@@ -4,24 +4,20 @@ use mathlib.Core.Path.{◌≡◌, sym, ◌∙◌, ap, ap₂}
 use mathlib.Core.Bool.{Bool, ◌&&◌}
 use mathlib.Core.List.{List}
 use native.Mathlib.Omega.{arith}
-use borrow.Author.Rules.{rules}
 use borrow.Author.Tests.{lt-ltb, ltb-true}
 use lib.Count.{ones}
 use lib.Dec.{ltb}
-use lib.ListN.{length, get_or}
+use lib.ListN.{get_or}
 use Rattle.base.specs.Counting.{count, among}
 use Rattle.base.specs.Digits.{bit}
 use Rattle.base.proofs.BoolLaws.{same_test}
 use Rattle.base.proofs.CountingLaws.{count-among}
 use Rattle.base.proofs.WordLaws.{count_bits}
 use Rattle.words.specs.Sets.{member}
-use Rattle.words.proofs.SetLaws.{member-at, member-out, members-count, Written, written_none, written-more, written_all}
-use Rattle.words.proofs.loops.keep_lowest.Statement.{statement}
-use Rattle.words.proofs.loops.keep_lowest.Tie as tie
-
--- how many of the k lowest are left after the first j words
-abbrev left_at : List ℕ → ℕ → ℕ → ℕ
-left_at ws k j = k - count (64 * j) (member ws)
+use Rattle.words.proofs.SetLaws.{member-at, member-out, members-count, written_none, written-more, written_all}
+use Rattle.words.proofs.loops.keep_lowest.Goals as goal
+use Rattle.words.proofs.loops.keep_lowest.Goals.{After-cut-kept}
+use Rattle.words.proofs.loops.keep_lowest.Invariants.{left_at}
 
 -- word j's own lowest, as many as are left, are its part of the k lowest
 part_at : (ws : List ℕ) (k j i : ℕ) → i < 64 → among (left_at ws k j) (bit (get_or ws j 0)) i ≡ among k (member ws) (64 * j + i)
@@ -49,41 +45,28 @@ part ws k j kept h b =
     let c : count (64 * (j + 1)) (member ws) ≡ count (64 * j) (member ws) + count 64 own = rw e (members-count ws j 64 (omega arith)) in
     record { digits = λ i l. ap (λ (f : ℕ → Bool). f i) b ∙ part_at ws k j i l; within = omega arith; next = omega arith }
 
-abbrev invariant-loop : tie.invariant-loop
-invariant-loop words₀ k left₀ j₀ words left j = Written (among k (member words₀)) words₀ j words × (left ≡ left_at words₀ k j)
-
-abbrev decreases-loop : tie.decreases-loop
-decreases-loop words₀ k left₀ j₀ words left j = length words₀ - j
-
-loop-holds : tie.Need-loop-init invariant-loop decreases-loop
+pub loop-j-init : goal.loop-j-init
 unfolding count
-loop-holds c = (written_none _ _, omega arith)
-
-abbrev start : tie.After-cut invariant-loop decreases-loop → tie.Start invariant-loop decreases-loop
-start c = c.before.before.before.before.before
+loop-j-init c = (written_none _ _, omega arith)
 
 -- the word that `cut` gave is word j's part, by the invariant
-here : (c : tie.After-cut invariant-loop decreases-loop) → Part (start c).args.words.now (start c).args.k c.before.before.before.loop.j c.cut.result
+here : (c : After-cut-kept) → Part c.args.words.now c.args.k c.loop-j.j c.cut-kept.result
 here c =
-    let l = c.before.before.before.loop in
-    let own = ap₂ (λ (n w : ℕ). among n (bit w)) l.invariant.1 (l.invariant.0.rest l.j (omega arith)) in
-    part _ _ l.j c.cut.result (omega arith) (c.cut.ensures ∙ own)
+    let own = ap₂ (λ (n w : ℕ). among n (bit w)) c.loop-j.invariant.1 (c.loop-j.invariant.0.rest c.loop-j.j (omega arith)) in
+    part _ _ c.loop-j.j c.cut-kept.result (omega arith) (c.cut-kept.ensures ∙ own)
 
-loop-again : tie.Need-loop-preserved invariant-loop decreases-loop
-loop-again c =
-    let l = c.before.before.before.loop in
-    (written-more _ _ l.invariant.0 (omega arith) c.cut.result (here c).digits, ap (λ (n : ℕ). n - ones c.cut.result) l.invariant.1 ∙ (here c).next)
+pub loop-j-preserved : goal.loop-j-preserved
+loop-j-preserved c =
+    (written-more _ _ c.loop-j.invariant.0 (omega arith) c.cut-kept.result (here c).digits, ap (λ (n : ℕ). n - ones c.cut-kept.result) c.loop-j.invariant.1 ∙ (here c).next)
 
-returns : tie.Need-returns invariant-loop decreases-loop
+pub returns : goal.returns
 unfolding among
 returns c =
-    let ws = c.before.before.before.args.words.now in
-    written_all _ _ c.before.loop.invariant.0 (omega arith) (λ i h. rw (member-out ws h))
+    let ws = c.args.words.now in
+    written_all _ _ c.loop-j.invariant.0 (omega arith) (λ i h. rw (member-out ws h))
 
-pub keep-lowest-spec : {M : Type 1} → statement M
-keep-lowest-spec =
-    tie.close
-    (tie.spec invariant-loop decreases-loop loop-holds
-    (λ c. search rules) (λ c. search rules) (λ c κs. search rules) (λ c. search rules) (λ c. search rules)
-    (λ c. omega (arith, (here c).within)) (λ c. omega (arith, (here c).within)) (λ c. omega arith) (λ c. omega arith)
-    loop-again (λ c. omega arith) returns)
+pub overflow_cast-left : goal.overflow_cast-left
+overflow_cast-left c = omega (arith, (here c).within)
+
+pub overflow_sub-left : goal.overflow_sub-left
+overflow_sub-left c = omega (arith, (here c).within)

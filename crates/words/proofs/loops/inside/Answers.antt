@@ -1,11 +1,10 @@
 -- `words::loops::inside` meets its contract: in the first j words each number of a is one of b, and a word joined to another is the other
 -- just where its digits are among the other's.
-use Prim.Native.Nat.{ℕ, ◌+◌, ◌*◌, ◌-◌, ◌^◌, ◌≤◌, ◌<◌}
+use Prim.Native.Nat.{ℕ, ◌+◌, ◌*◌, ◌-◌, ◌^◌, ◌<◌}
 use mathlib.Core.Path.{◌≡◌, refl, sym, ◌∙◌, ap}
 use mathlib.Core.Bool.{Bool, true, false, not, ◌||◌}
 use mathlib.Core.List.{List}
 use native.Mathlib.Omega.{arith}
-use borrow.Author.Rules.{rules}
 use lib.Bits.{bit_or, or_lt}
 use lib.ListN.{length, get_or}
 use Rattle.base.specs.Tests.{all}
@@ -16,12 +15,8 @@ use Rattle.base.proofs.DigitLaws.{bits-equal}
 use Rattle.base.proofs.WordLaws.{bit-or}
 use Rattle.words.specs.Sets.{member, inside_in}
 use Rattle.words.proofs.SetLaws.{members-at, words_more}
-use Rattle.words.proofs.loops.inside.Statement.{statement}
-use Rattle.words.proofs.loops.inside.Tie as tie
-
--- in the one set only if in the other
-abbrev within : Bool → Bool → Bool
-within x y = not x || y
+use Rattle.words.proofs.loops.inside.Goals as goal
+use Rattle.words.proofs.loops.inside.Invariants.{within}
 
 -- a digit joined to another is the other just where the other has it if the first has it
 absorbed : (x y : Bool) → (x || y) ≡ y → within x y ≡ true
@@ -50,35 +45,21 @@ module _ (a b : List ℕ) (j : ℕ) where
       (λ k h. bit-or (get_or a j 0) (get_or b j 0) k
       ∙ absorbs (bit (get_or a j 0) k) (bit (get_or b j 0) k) (sym (members-at within a b j k h) ∙ all-at (64 * length a) _ t (omega arith)))))
 
-abbrev invariant-loop : tie.invariant-loop
-invariant-loop a b j₀ j = (j ≤ length a) × ((i : ℕ) → i < 64 * j → within (member a i) (member b i) ≡ true)
+pub returns-then-own-other : goal.returns-then-own-other
+returns-then-own-other c =
+    let a = c.args in
+    let j = c.loop-j.j in
+    sym (fails-here a.a.now a.b.now j c.loop-j-test.true
+    (c.shared_slice_known-1.given j).fits (c.shared_slice_known-in-loop-j-1.given j).fits c.if-own-other.true)
 
-abbrev decreases-loop : tie.decreases-loop
-decreases-loop a b j₀ j = length a - j
+pub loop-j-preserved : goal.loop-j-preserved
+loop-j-preserved c =
+    let a = c.args in
+    (omega arith, words_more _ c.loop-j.j c.loop-j.invariant.1 (each-here a.a.now a.b.now c.loop-j.j c.if-own-other.false))
 
-returns : tie.Need-returns invariant-loop decreases-loop
-returns c =
-    let r = c.before.before in
-    let l = r.before.before in
-    let a = l.before.args in
-    let j = l.loop.j in
-    sym (fails-here a.a.now a.b.now j r.before.loop-test.true
-    (r.shared-slice-known.given j).fits (c.before.shared-slice-known2.given j).fits c.if1.true)
-
-loop-again : tie.Need-loop-preserved invariant-loop decreases-loop
-loop-again c =
-    let l = c.before.before.before.before in
-    let a = l.before.args in
-    (omega arith, words_more _ l.loop.j l.loop.invariant.1 (each-here a.a.now a.b.now l.loop.j c.if1.false))
-
-returns-2 : tie.Need-returns-2 invariant-loop decreases-loop
+pub returns : goal.returns
 unfolding inside_in
-returns-2 c = sym (all_from _ _ (λ i h. c.before.loop.invariant.1 i (omega arith)))
+returns c = sym (all_from _ _ (λ i h. c.loop-j.invariant.1 i (omega arith)))
 
-pub inside-spec : {M : Type 1} → statement M
-inside-spec =
-    tie.close
-    (tie.spec invariant-loop decreases-loop
-    (λ c. (omega arith, λ i h. absurd (omega arith)))
-    (λ c. search rules) (λ c. search rules) (λ c. search rules) (λ c. omega arith)
-    returns (λ c. omega arith) (λ c. omega arith) loop-again returns-2)
+pub loop-j-init : goal.loop-j-init
+loop-j-init c = (omega arith, λ i h. absurd (omega arith))

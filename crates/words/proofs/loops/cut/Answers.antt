@@ -11,8 +11,8 @@ use Rattle.base.specs.Counting.{among}
 use Rattle.base.proofs.BoolLaws.{order}
 use Rattle.base.proofs.CountingLaws.{among_none}
 use Rattle.base.proofs.WordLaws.{bit-zero, one_shifted, ones-top, among-top, among-whole}
-use Rattle.words.proofs.loops.cut.Statement.{statement}
-use Rattle.words.proofs.loops.cut.Tie as tie
+use Rattle.words.proofs.loops.cut.Goals as goal
+use Rattle.words.proofs.loops.cut.Goals.{In-loop-kept}
 
 -- the highest one of a word, as the code finds it, and the word without it
 record Highest (w : ℕ) : Type 0 where
@@ -44,36 +44,33 @@ dropped k w t h =
     let o : ones w ≡ ones (w - 2 ^ j) + 1 = ap ones e ∙ ones-top j (w - 2 ^ j) t.lower in
     sym (ap (λ (v : ℕ). among k (bit v)) e ∙ among-top k j (w - 2 ^ j) t.lower (omega arith))
 
-abbrev invariant-loop : tie.invariant-loop
-invariant-loop word k kept₀ kept = (kept < 2 ^ 64) × (among k (bit kept) ≡ among k (bit word))
+pub returns-then-k-eq0 : goal.returns-then-k-eq0
+returns-then-k-eq0 c =
+    let f = bit c.args.word in
+    fun_ext (λ i. bit-zero i ∙ sym (ap (λ (k : ℕ). among k f i) c.if-k-eq0.true ∙ among_none f i))
 
-abbrev decreases-loop : tie.decreases-loop
-decreases-loop word k kept₀ kept = kept
+top : (c : In-loop-kept) → Highest c.loop-kept.kept
+top c = highest _ (omega arith) c.loop-kept.invariant.0
 
-returns : tie.Need-returns invariant-loop decreases-loop
+pub loop-kept-preserved : goal.loop-kept-preserved
+loop-kept-preserved c =
+    rw (top c).found (omega arith, dropped _ _ (top c) c.loop-kept-test.true ∙ c.loop-kept.invariant.1)
+
+pub returns : goal.returns
 returns c =
-    let f = bit c.before.args.word in
-    fun_ext (λ i. bit-zero i ∙ sym (ap (λ (k : ℕ). among k f i) c.if1.true ∙ among_none f i))
+    sym (among-whole 64 _ c.loop-kept.kept c.loop-kept.invariant.0 c.loop-kept-test.false) ∙ c.loop-kept.invariant.1
 
-top : (c : tie.In-loop invariant-loop decreases-loop) → Highest c.before.loop.auto
-top c = highest _ (omega arith) c.before.loop.invariant.0
+pub loop-kept-init : goal.loop-kept-init
+loop-kept-init c = (omega arith, refl)
 
-loop-again : tie.Need-loop-preserved invariant-loop decreases-loop
-loop-again c =
-    rw (top c).found (omega arith, dropped _ _ (top c) c.loop-test.true ∙ c.before.loop.invariant.1)
+pub overflow_cast-kept : goal.overflow_cast-kept
+overflow_cast-kept c = omega (arith, ones-le 64 c.loop-kept.kept c.loop-kept.invariant.0)
 
-returns-2 : tie.Need-returns-2 invariant-loop decreases-loop
-returns-2 c =
-    let l = c.before.loop in
-    sym (among-whole 64 _ l.auto l.invariant.0 c.loop-test.false) ∙ l.invariant.1
+pub overflow_sub-kept : goal.overflow_sub-kept
+overflow_sub-kept c = (top c).zeros
 
-pub cut_spec : {M : Type 1} → statement M
-cut_spec =
-    tie.close
-    (tie.spec invariant-loop decreases-loop
-    returns (λ c. (omega arith, refl))
-    (λ c. omega (arith, ones-le 64 c.loop.auto c.loop.invariant.0))
-    (λ c. (top c).zeros) (λ c. omega arith) (λ c. omega arith)
-    (λ c. rw (top c).found (top c).within)
-    (λ c. rw (top c).found (omega (arith, top c, pow_pos (top c).place)))
-    loop-again returns-2)
+pub overflow_sub-kept-in-loop-kept : goal.overflow_sub-kept-in-loop-kept
+overflow_sub-kept-in-loop-kept c = rw (top c).found (top c).within
+
+pub loop-kept-smaller : goal.loop-kept-smaller
+loop-kept-smaller c = rw (top c).found (omega (arith, top c, pow_pos (top c).place))

@@ -2,23 +2,16 @@
 use Prim.Native.Nat.{ℕ, ◌/◌, ◌%◌}
 use mathlib.Core.Path.{◌∙◌, ap}
 use native.Mathlib.Omega.{arith}
-use borrow.Author.Rules.{rules}
 use lib.Bits.{bit_or}
 use lib.ListN.{get_or, set}
 use Rattle.base.proofs.WordLaws.{one_shifted}
 use Rattle.words.specs.Sets.{member}
 use Rattle.words.proofs.SetLaws.{member-plus}
-use Rattle.words.proofs.loops.add.Statement.{statement}
-use Rattle.words.proofs.loops.add.Tie as tie
+use Rattle.words.proofs.loops.add.Goals as goal
 
-returns : tie.Need-returns
+pub returns : goal.returns
 returns c =
-    let i = c.before.args.i in
-    let ws = c.before.args.words.now in
+    let i = c.args.i in
+    let ws = c.args.words.now in
     ap (λ (x : ℕ). member (set ws (i / 64) (bit_or (get_or ws (i / 64) 0) x))) (one_shifted 64 (i % 64) (omega arith))
-    ∙ member-plus ws i c.before.requires
-
-pub add_spec : {M : Type 1} → statement M
-add_spec =
-    tie.close
-    (tie.spec (λ c. search rules) (λ c. search rules) (λ c. search rules) (λ c. search rules) (λ c. search rules) (λ c. search rules) returns)
+    ∙ member-plus ws i c.requires

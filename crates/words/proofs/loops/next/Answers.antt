@@ -3,10 +3,8 @@
 use Prim.Native.Nat.{ℕ, ◌+◌, ◌*◌, ◌-◌, ◌/◌, ◌%◌, ◌^◌, ◌≤◌, ◌<◌}
 use mathlib.Core.Path.{◌≡◌, sym, ◌∙◌, ap}
 use mathlib.Core.Logic.{⊎_elim}
-use mathlib.Core.Bool.{Bool}
 use mathlib.Core.List.{List}
 use native.Mathlib.Omega.{arith}
-use borrow.Author.Rules.{rules}
 use lib.Count.{count_trailing_zeros, trailing_le}
 use lib.ListN.{length, get_or}
 use lib.Pow.{shr_lt}
@@ -16,8 +14,8 @@ use Rattle.base.proofs.BoolLaws.{order}
 use Rattle.base.proofs.WordLaws.{bit-zero, none-zero, trailing-lowest}
 use Rattle.words.specs.Sets.{member}
 use Rattle.words.proofs.SetLaws.{member-from}
-use Rattle.words.proofs.loops.next.Statement.{statement}
-use Rattle.words.proofs.loops.next.Tie as tie
+use Rattle.words.proofs.loops.next.Goals as goal
+use Rattle.words.proofs.loops.next.Goals.{Then-word-ne0}
 
 -- word i / 64, shifted down to i
 abbrev shifted : List ℕ → ℕ → ℕ
@@ -50,40 +48,29 @@ module _ (ws : List ℕ) (i : ℕ) where
             lower = λ m a b. member-from ws i a (omega arith) ∙ s.lower (m - i) (omega arith) (omega arith);
           }
 
-abbrev invariant-loop : tie.invariant-loop
-invariant-loop words from i₀ i = (i ≤ 64 * length words) × Lowest (member words) from i i
-
-abbrev decreases-loop : tie.decreases-loop
-decreases-loop words from i₀ i = 64 * length words - i
-
-abbrev at-loop : tie.Then1 invariant-loop decreases-loop → tie.At-loop invariant-loop decreases-loop
-at-loop c = c.before.before.before
-
-zeros : (c : tie.Then1 invariant-loop decreases-loop) → count_trailing_zeros 64 (shifted (at-loop c).before.args.words.now (at-loop c).loop.i) ≤ 64
+zeros : (c : Then-word-ne0) → count_trailing_zeros 64 (shifted c.args.words.now c.loop-i.i) ≤ 64
 zeros c = trailing_le 64 _
 
-returns : tie.Need-returns invariant-loop decreases-loop
+pub returns-then-word-ne0 : goal.returns-then-word-ne0
+returns-then-word-ne0 c =
+    let fits = (c.shared_slice_known-1.given (c.loop-i.i / 64)).fits in
+    sym (seek-at _ (lowest-on c.loop-i.invariant.1 (lowest-here _ c.loop-i.i c.loop-i-test.true fits c.if-word-ne0.true)))
+
+pub loop-i-preserved : goal.loop-i-preserved
+loop-i-preserved c =
+    (omega arith, lowest-on c.loop-i.invariant.1 (none_here _ c.loop-i.i c.if-word-ne0.false))
+
+pub returns : goal.returns
 returns c =
-    let l = (at-loop c).loop in
-    let fits = (c.before.shared-slice-known.given (l.i / 64)).fits in
-    sym (seek-at _ (lowest-on l.inv.1 (lowest-here _ l.i c.before.before.loop-test.true fits c.if1.true)))
+    let ws = c.args.words.now in
+    let e : c.loop-i.i ≡ 64 * length ws = omega arith in
+    e ∙ sym (seek-at (member ws) (rw e at c.loop-i.invariant.1))
 
-loop-again : tie.Need-loop-preserved invariant-loop decreases-loop
-loop-again c =
-    let l = c.before.before.before.loop in
-    (omega arith, lowest-on l.invariant.1 (none_here _ l.i c.if1.false))
+pub loop-i-init : goal.loop-i-init
+loop-i-init c = (omega arith, lowest-none _ (omega arith) (λ j l h. absurd (omega arith)))
 
-returns-2 : tie.Need-returns-2 invariant-loop decreases-loop
-returns-2 c =
-    let l = c.before.loop in
-    let ws = c.before.before.args.words.now in
-    let e : l.i ≡ 64 * length ws = omega arith in
-    e ∙ sym (seek-at (member ws) (rw e at l.invariant.1))
+pub overflow_cast-result : goal.overflow_cast-result
+overflow_cast-result c = omega (arith, zeros c)
 
-pub next-spec : {M : Type 1} → statement M
-next-spec =
-    tie.close
-    (tie.spec invariant-loop decreases-loop
-    (λ c. (omega arith, lowest-none _ (omega arith) (λ j l h. absurd (omega arith))))
-    (λ c. search rules) (λ c. search rules) (λ c. search rules) (λ c. omega (arith, zeros c)) (λ c. omega (arith, zeros c))
-    returns (λ c. omega arith) (λ c. omega arith) (λ c. omega arith) loop-again returns-2)
+pub overflow_add-result : goal.overflow_add-result
+overflow_add-result c = omega (arith, zeros c)
