@@ -32,6 +32,8 @@ class Info:
         self.callee = {}
         self.clauses = {}
         self.typed = {}
+        self.arms = {}
+        self.renamed = {}
         names = list(d["places_by_name"])
         old = d["places"]
         real = [p for p in old if p[0] != "Untold"] if len(names) == len(old) - 1 or any(p[0] == "Untold" for p in old) else old
@@ -46,7 +48,10 @@ class Info:
             self.parent[o] = norm(p[1]) if p[1] else None
             self.step[o] = (norm(p[2][0]), p[2][1])
             self.callee[o] = p[3]
-            self.clauses[o] = d["clauses"][k] if k < len(d["clauses"]) else None
+            cl = d["clauses"][k] if k < len(d["clauses"]) else None
+            self.clauses[o] = cl["fields"] if isinstance(cl, dict) else cl
+            self.arms[o] = d["arms"][k] if k < len(d["arms"]) else None
+            self.renamed[o] = {norm(a): b for a, b in p[4]} if len(p) > 4 and p[4] else {}
             self.typed[o] = d["typed"][k] if k < len(d["typed"]) else []
         self.needs = [(norm(a), b) for a, b in d["needs"]]
         self.at = [norm(a[0]) for a in d["asked_at"]]
@@ -151,6 +156,7 @@ class File:
             if p:
                 new = inf.step[p][1]
                 return ("text",) + self.step_fields(p, root + "." + new, fs[1:])
+            # a step whose fields went to an arm below it
         # typed facts
         self.said(f"no step {fs[0]} seen from {place}")
         return ("text", root + "." + ".".join(fs), None, [])
@@ -178,6 +184,17 @@ class File:
         inf = self.info
         if not fs:
             return text, ("step", p), []
+        arm = inf.arms.get(p)
+        if arm:
+            best = None
+            for newf, olds, sub in arm[2]:
+                if norm(olds) == inf.step[p][0] and fs[: len(sub)] == sub and sub and (best is None or len(sub) > len(best[1])):
+                    best = (newf, sub)
+            if best:
+                root = text[: text.rindex("." + inf.step[p][1])]
+                return root + "." + arm[0] + "." + best[0] + "".join("." + x for x in fs[len(best[1]) :]), None, []
+        if norm(fs[0]) in inf.renamed.get(p, {}):
+            return text + "." + inf.renamed[p][norm(fs[0])] + "".join("." + x for x in fs[1:]), None, []
         f = fs[0]
         loop = next((l for l in inf.loops if l[0] == inf.step[p][0]), None)
         if loop:
@@ -192,6 +209,8 @@ class File:
             f = TESTS[f]
         if f == "ensures":
             cl = inf.clauses.get(p)
+            if cl and len(cl) == 1:
+                return text + ".ensures." + cl[0] + "".join("." + x for x in fs[1:]), None, []
             if cl and len(cl) > 1:
                 k = 0
                 rest = fs[1:]
@@ -384,8 +403,7 @@ class File:
 
     def types(self, s):
         def need(m):
-            n = norm(m.group(1))
-            k = next((j for j, (a, _) in enumerate(self.info.needs) if a == n), None)
+            k = self.need_index(m.group(1))
             if k is None:
                 self.said(f"no need {m.group(1)}")
                 return m.group()
@@ -412,8 +430,15 @@ class File:
         m = re.search(r"tie\.Need-([A-Za-z0-9_-]+)", t)
         if not m:
             return None
-        n = norm(m.group(1))
-        return next((j for j, (a, _) in enumerate(self.info.needs) if a == n), None)
+        return self.need_index(m.group(1))
+
+    def need_index(self, name):
+        n = norm(name)
+        for x in (n, re.sub(r"^overflow-", "", n)):
+            k = next((j for j, (a, _) in enumerate(self.info.needs) if a == x), None)
+            if k is not None:
+                return k
+        return next((j for j, (_, b) in enumerate(self.info.needs) if norm(b) == n), None)
 
 
 def binder_places(f, sig):

@@ -80,7 +80,7 @@ fn means(fits: bool, cell: Cell) -> Record
 }
 
 // "A record: cell kind (1 byte), on value (1), control position (2), net (2)".
-#[derive(Drop)]
+#[derive(Clone, Copy)]
 struct Fields {
     kind: u8,
     on: u8,

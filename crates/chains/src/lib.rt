@@ -25,7 +25,7 @@ const COUNTS: usize = 3 * MOST_CELLS + MOST_NETS;
 pub const TABLE: usize = 3 * MOST_CELLS + 2 * MOST_NETS;
 
 // A cell's key in a chain, if it has one.
-#[derive(Drop)]
+#[derive(Clone, Copy)]
 pub enum Key {
     Of(usize),
     Nothing,
