@@ -716,11 +716,71 @@ def convert(path, info, said):
                 text = re.sub(r"^((?:(?:abbrev|pub) )*)" + re.escape(name) + r"(?= )", lambda m: m.group(1) + copy, text, flags=re.M)
                 old = info.new[f.helpers[name][0]]
                 f.seen_places.add(info.new[frm])
-                text = f.types(text).replace(old, info.new[frm], 1)
+                text = re.sub(r"(?<![A-Za-z0-9_'.-])" + re.escape(old) + r"(?![A-Za-z0-9_'-])", info.new[frm], f.types(text), count=1)
                 made[(name, frm)] = text
     for (name, frm), text in made.items():
         k = next((k for k, b in enumerate(ans_out) if re.search(r"^(?:(?:abbrev|pub) )*" + re.escape(name) + r" ", b, re.M)), None)
         ans_out[k] += "\n\n" + text
+    # a helper that only its copies are cited of goes
+    gone = True
+    while gone:
+        gone = False
+        for k, b in enumerate(list(ans_out)):
+            parts = b.split("\n\n")
+            keep = []
+            for part in parts:
+                body = "\n".join(l for l in part.split("\n") if not l.startswith("--"))
+                mm = re.match(r"(?:abbrev )?(" + IDENT + r")\s*:", body)
+                others = "\n".join(inv_out + [x for j, x in enumerate(ans_out) if j != k] + [x for x in parts if x is not part])
+                if mm and f.copies and mm.group(1) in f.helpers and not re.search(r"(?<![A-Za-z0-9_'.-])" + re.escape(mm.group(1)) + r"(?![A-Za-z0-9_'-])", others):
+                    gone = True
+                    com = "\n".join(l for l in part.split("\n") if l.startswith("--"))
+                    if com and parts.index(part) + 1 < len(parts):
+                        parts[parts.index(part) + 1] = com + "\n" + parts[parts.index(part) + 1]
+                    continue
+                keep.append(part)
+            ans_out[k] = "\n\n".join(keep)
+        ans_out[:] = [b for b in ans_out if b.strip()]
+    # the two ways to a join
+    def ways(b):
+        pos = b.find("⊎_elim")
+        while pos >= 0:
+            rest = b[pos + len("⊎_elim") :]
+            args_, i_ = [], 0
+            while len(args_) < 3 and i_ < len(rest):
+                if rest[i_].isspace():
+                    i_ += 1
+                    continue
+                if rest[i_] == "(":
+                    d_, j_ = 0, i_
+                    while True:
+                        d_ += rest[j_] == "("
+                        d_ -= rest[j_] == ")"
+                        j_ += 1
+                        if d_ == 0:
+                            break
+                else:
+                    m_ = re.match(r"[^\s)]+", rest[i_:])
+                    if not m_:
+                        break
+                    j_ = i_ + m_.end()
+                args_.append(rest[i_:j_])
+                i_ = j_
+            m_ = re.fullmatch(r"(.*)\.if-(\S+)\.branch", args_[2]) if len(args_) == 3 else None
+            if m_:
+                step = m_.group(2)
+                arms_ = []
+                for a_, way, yes in ((args_[0], "then", "true"), (args_[1], "else", "false")):
+                    l_ = re.fullmatch(r"\(λ (\S+)\. (.*)\)", a_, re.S)
+                    w_ = l_.group(1)
+                    x_ = re.sub(r"\b" + w_ + r"\.0\.(taken|true|left|false)", w_ + ".if-" + step + "." + yes, l_.group(2))
+                    x_ = re.sub(r"\b" + w_ + r"\.(2|1)(?!\.)", w_ + ".value-is", x_)
+                    arms_.append(f"{way}-{step} {w_} ↦ {x_}")
+                    f.seen_places.add(f"{way}-{step}")
+                b = b[:pos] + "elim " + args_[2] + " [ " + " | ".join(arms_) + " ]" + rest[i_:]
+            pos = b.find("⊎_elim", pos + 1)
+        return b
+    ans_out[:] = [ways(b) for b in ans_out]
     f.seen_places = {p for p in f.seen_places if re.search(r"(?<![A-Za-z0-9_'.-])" + re.escape(p) + r"(?![A-Za-z0-9_'-])|\)\." + re.escape(p) + r"(?![A-Za-z0-9_'-])", "\n".join(ans_out))}
     # what an invariant says by a definition of the file goes with it
     moved = True

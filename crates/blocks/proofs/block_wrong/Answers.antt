@@ -3,8 +3,7 @@ use Rattle.std.proofs.Common.{◌≡◌, ℕ, zero, suc, ◌/◌, Bool, not, eqb
 use Rattle.rules.specs.File.{block_size, blocks_in, cells_of, cell_block_right}
 use Rattle.rules.specs.Refusals.{blocks_for, block_wrong}
 use Rattle.blocks.proofs.Lengths.{cells-bounded}
-use Rattle.blocks.proofs.block_wrong.Statement.{statement}
-use Rattle.blocks.proofs.block_wrong.Tie as tie
+use Rattle.blocks.proofs.block_wrong.Goals as goal
 
 -- the number of blocks
 first-wrong :
@@ -22,22 +21,17 @@ unfolding block_wrong
 later-wrong file zero n e = absurd (n refl)
 later-wrong file (suc i) n e = rw e
 
-blocks-for-requires : tie.Need-blocks-for-requires
-blocks-for-requires c κs =
-    let d = c.before in
-    omega (arith, d.before.requires.told, cells-bounded d.before.args.file.now (λ j. (d.shared-slice-known.given j).fits))
+pub blocks_for-requires : goal.blocks_for-requires
+blocks_for-requires c =
+    omega (arith, c.requires.told, cells-bounded c.args.file.now (λ j. (c.shared_slice_known-1.given j).fits))
 
-returns : tie.Need-returns
-returns c = first-wrong _ c.before.if1.true c.before.before.before.requires.told c.blocks-for.ensures
+pub returns-then-i-eq0 : goal.returns-then-i-eq0
+returns-then-i-eq0 c = first-wrong _ c.if-i-eq0.true c.requires.told c.blocks_for.ensures
 
-cell-block-right-requires : tie.Need-cell-block-right-requires
-cell-block-right-requires c κs =
-    let p = c.before.before.requires in
-    let n = c.if1.false in
-    record { later = omega arith; whole = p.whole; told = p.told; head = p.head }
+pub cell_block_right-requires : goal.cell_block_right-requires
+cell_block_right-requires c =
+    let n = c.if-i-eq0.false in
+    record { later = omega arith; whole = c.requires.whole; told = c.requires.told; head = c.requires.head }
 
-returns-2 : tie.Need-returns-2
-returns-2 c = later-wrong _ _ c.before.if1.false c.cell-block-right.ensures
-
-pub block-wrong-spec : {M : Type 1} → statement M
-block-wrong-spec = tie.close (tie.spec blocks-for-requires returns cell-block-right-requires returns-2)
+pub returns : goal.returns
+returns c = later-wrong _ _ c.if-i-eq0.false c.cell_block_right.ensures
