@@ -69,11 +69,12 @@ class Info:
 
     def find(self, place, field):
         """The step with the old name `field` seen from `place`, and the place that has it."""
-        p = place
-        while p is not None:
-            if self.step[p][0] == field:
-                return p
-            p = self.parent.get(p)
+        for f in (field, field[:1].lower() + field[1:]):
+            p = place
+            while p is not None:
+                if self.step[p][0] == f:
+                    return p
+                p = self.parent.get(p)
         return None
 
 
@@ -602,7 +603,11 @@ def convert(path, info, said):
     done = set()
     helper_out = []
 
-    def answer(k, com, unf, binder, body, rest=""):
+    def answer(k, com, unf, binder, body, more=""):
+        extra = more.split()
+        if info.needs[k][0].endswith("requires") or re.search(r"requires-\d+$", info.needs[k][0]):
+            extra = extra[1:]
+        extra = [x for x in extra if x != "κs"]
         place = info.at[k]
         new = info.needs[k][1]
         f.goal = new
@@ -618,9 +623,9 @@ def convert(path, info, said):
                     said(f"{new}: not a tuple for {names}")
             else:
                 text = r
-        if trivial(text) and not unf:
+        if trivial(text) and not unf and not extra:
             return
-        ans_out.append("\n".join(com + [f"pub {new} : goal.{new}"] + unf + [f"{new} {binder} ={text}"]) + rest)
+        ans_out.append("\n".join(com + [f"pub {new} : goal.{new}"] + unf + [f"{' '.join([new, binder] + extra)} ={text}"]))
 
     for b in decls:
         if b is spec:
@@ -632,14 +637,14 @@ def convert(path, info, said):
         if name and (name.startswith("invariant-") or name.startswith("decreases-")) and "tie." in body.split("\n")[0]:
             continue
         if name and name in used and f.need_of(body) is not None:
-            eq = re.search(r"^" + re.escape(name) + r" (" + IDENT + r")((?: κs| _)*) =(.*)$", body, re.M | re.S)
+            eq = re.search(r"^" + re.escape(name) + r" (" + IDENT + r")((?: [^ =\n]+)*) =(.*)$", body, re.M | re.S)
             unf = [l for l in body.split("\n") if l.startswith("unfolding")]
             if not eq:
                 said(f"answer {name} not read")
                 continue
             for n, k in enumerate(used[name]):
                 done.add(k)
-                answer(k, com if n == 0 else [], unf, eq.group(1), eq.group(3))
+                answer(k, com if n == 0 else [], unf, eq.group(1), eq.group(3), eq.group(2))
             continue
         if name and name in used:
             for k in used[name]:
@@ -682,7 +687,7 @@ def convert(path, info, said):
         if re.fullmatch(IDENT, a):
             said(f"{info.needs[k][1]}: {a} is not declared here")
             continue
-        eq = re.match(r"\(λ (" + IDENT + r")((?: κs| _)*)\.(.*)\)$", a, re.S)
+        eq = re.match(r"\(λ (" + IDENT + r")((?: [^ .()]+)*)\.(.*)\)$", a, re.S)
         if not eq:
             if trivial(a):
                 continue
@@ -690,7 +695,7 @@ def convert(path, info, said):
             continue
         if re.fullmatch(r"\s*search rules\s*", eq.group(3)):
             continue
-        answer(k, [], spec_unf, eq.group(1), " " + eq.group(3).strip())
+        answer(k, [], spec_unf, eq.group(1), " " + eq.group(3).strip(), eq.group(2))
     for name, ks in used.items():
         if name in named and f.need_of(named[name]) is None:
             for k in ks:

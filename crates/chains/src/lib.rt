@@ -1,5 +1,7 @@
 // The one lent table of a board: chains of outputs by control cell and by net, and the numbers of
 // drivers. It is filled in `filling` and walked in `sharing`.
+#![tactic(auto)]
+
 ghost use Rattle.std.specs.Prelude.{◌≡◌, ◌+◌, ◌-◌, ◌<◌, ◌≤◌, get_or, set};
 ghost use Rattle.rules.specs.File.{board_of};
 ghost use Rattle.rules.specs.Refusals.{most_cells, most_nets};
