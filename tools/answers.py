@@ -134,15 +134,12 @@ class File:
 
     # ---- expressions
 
-    def fields(self, place, root, fs):
+    def fields(self, place, root, fs, frm=None):
         """The new text of root.f1.f2.. for old fields from `place`, and what the result is."""
         inf = self.info
         while fs and fs[0] == "before":
-            place = inf.parent.get(place)
+            place = inf.parent.get(place) or place
             fs = fs[1:]
-            if place is None:
-                self.said("a .before past the start")
-                return None
         if not fs:
             return ("place", place)
         f = norm(fs[0])
@@ -153,7 +150,7 @@ class File:
         if f in ("ranges", "well-formed", "lifetimes"):
             return ("text", root + "." + fs[0] + "".join("." + x for x in fs[1:]), None, [])
         for suffix in ("",):
-            p = inf.find(place, f)
+            p = inf.find(place, f) or (frm and inf.find(frm, f))
             if p:
                 new = inf.step[p][1]
                 return ("text",) + self.step_fields(p, root + "." + new, fs[1:])
@@ -279,10 +276,7 @@ class File:
         end, root, place, text, al = a
         while s.startswith(".before", end) and not re.match(r"[A-Za-z0-9_'-]", s[end + 7 : end + 8] or " "):
             end += 7
-            place = self.info.parent.get(place)
-            if place is None:
-                self.said("a .before past the start")
-                return None
+            place = self.info.parent.get(place) or place
         return (end, root, place, text, al)
 
     def rewrite(self, s, env):
@@ -323,7 +317,7 @@ class File:
                         i = self.drop_space(s, i, out)
                         continue
                     if t and fs:
-                        r = self.fields(e[2], e[1], fs)
+                        r = self.fields(e[2], e[1], fs, e[4].frm)
                         if r and r[0] == "text" and r[2] is not None:
                             al = Alias(e[1])
                             al.text, al.kind = r[1], r[2]
@@ -336,6 +330,7 @@ class File:
                 e = self.place_expr(s, m.end() + 1, env)
                 if e and not FIELD.match(s, e[0]):
                     place, path, _ = self.helpers[m.group()]
+                    e = (e[0], e[1], place, None, e[4])
                     if path is not None:
                         out.append(e[1] + path)
                     elif e[4].frm == place or self.goal:
@@ -356,7 +351,7 @@ class File:
                     fs.append(f.group(1))
                     k = f.end()
                 if fs:
-                    r = self.fields(e[2], e[1], fs)
+                    r = self.fields(e[2], e[1], fs, e[4].frm)
                     if r and r[0] == "text":
                         out.append(r[1])
                         i = k
@@ -598,7 +593,10 @@ def convert(path, info, said):
                 sub[name] = f"l.initial.{v}" if initial and v in changed else f"l.{v}"
             rhs = re.sub(r"(?<![A-Za-z0-9_.'-])(" + "|".join(re.escape(x) for x in sorted(sub, key=len, reverse=True)) + r")(?![A-Za-z0-9_'₀-])(?! =)", lambda m: sub[m.group(1)], rhs)
             new = f"{kind}-{newl}"
-            inv_out.append("\n".join(com + [f"abbrev pub {new} : goal.{new}"] + unf + [f"{new} l ={rhs}"]))
+            x = "at" if re.search(r"(?<![A-Za-z0-9_.'-])l(?![A-Za-z0-9_.'-])", rhs) else "l"
+            if x != "l":
+                rhs = re.sub(r"(?<![A-Za-z0-9_.'-])l\.(?=[a-z])", "at.", rhs)
+            inv_out.append("\n".join(com + [f"abbrev pub {new} : goal.{new}"] + unf + [f"{new} {x} ={rhs}"]))
     # answers, in the order of the old file, then the inline ones
     done = set()
     helper_out = []
