@@ -14,8 +14,7 @@ use Rattle.chains.specs.Table.{count_in}
 use Rattle.chains.specs.Counts.{Counted}
 use Rattle.chains.proofs.Walks.{net-fits}
 use Rattle.board.specs.Controls.{drivers_at}
-use Rattle.board.proofs.controls.drivers_at.Statement.{statement}
-use Rattle.board.proofs.controls.drivers_at.Tie as tie
+use Rattle.board.proofs.controls.drivers_at.Goals as goal
 
 module _ (file t : List ℕ) (c n : ℕ) (pre : Counted file (cells_of file) t) (l : c < cells_of file) (x : controlled (board_of file) c ≡ true) (e : n ≡ net_of ((board_of file).cell c)) where
   in_table : n < most_nets
@@ -28,10 +27,11 @@ module _ (file t : List ℕ) (c n : ℕ) (pre : Counted file (cells_of file) t) 
   unfolding drivers_at drivers board_of
   counted r h = h ∙ pre.counted n in_table ∙ rw (e, x)
 
-pub drivers-at-spec : {M : Type 1} → statement M
-drivers-at-spec =
-    tie.close
-    (tie.spec
-    (λ c κs. let p = c.before.requires in record { checked = p.0.checked; below = p.1.0 })
-    (λ c κs. let p = c.before.before.requires in in_table _ _ _ _ p.0 p.1.0 p.1.1 c.net-at.ensures)
-    (λ c. let p = c.before.before.before.requires in counted _ _ _ _ p.0 p.1.0 p.1.1 c.before.net-at.ensures _ c.drivers-on.ensures))
+pub net_at-requires : goal.net_at-requires
+net_at-requires c = record { checked = c.requires.counted.checked; below = c.requires.c_bound.0 }
+
+pub drivers_on-requires : goal.drivers_on-requires
+drivers_on-requires c = in_table _ _ _ _ c.requires.counted c.requires.c_bound.0 c.requires.c_bound.1 c.net_at.ensures
+
+pub returns : goal.returns
+returns c = counted _ _ _ _ c.requires.counted c.requires.c_bound.0 c.requires.c_bound.1 c.net_at.ensures _ c.drivers_on.ensures
