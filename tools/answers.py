@@ -430,7 +430,7 @@ class File:
 
     def need_index(self, name):
         n = norm(name)
-        for x in (n, re.sub(r"^overflow-", "", n)):
+        for x in (n, re.sub(r"^(?:overflow|nonzero)-", "", n)):
             k = next((j for j, (a, _) in enumerate(self.info.needs) if a == x), None)
             if k is not None:
                 return k
