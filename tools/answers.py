@@ -803,6 +803,8 @@ def convert(path, info, said):
                             m2 = re.match(r"((?:abbrev |unfoldable )*)(.*)$", l_)
                             lines_[i_] = m2.group(1) + "pub " + m2.group(2)
                         break
+                if any("record " in l_ for l_ in lines_ if not l_.startswith("--")):
+                    lines_ = [re.sub(r"^  (?=" + IDENT + r" :)", "  pub ", l_) for l_ in lines_]
                 inv_out.insert(0, "\n".join(lines_))
                 shared.insert(0, name)
                 moved = True

@@ -3,7 +3,6 @@ use Prim.Native.Nat.{ℕ, ◌+◌, ◌*◌, ◌/◌, ◌%◌, ◌^◌, ◌<◌}
 use mathlib.Core.Path.{◌≡◌, sym, ◌∙◌}
 use mathlib.Core.List.{List}
 use native.Mathlib.Omega.{arith}
-use borrow.Author.Rules.{rules}
 use lib.Bits.{bit_and, and_mask}
 use lib.ListN.{get_or}
 use Rattle.base.specs.Digits.{bit, word}
@@ -11,8 +10,7 @@ use Rattle.base.proofs.DigitLaws.{word_same, word_cut}
 use Rattle.base.proofs.WordLaws.{bit_shifted}
 use Rattle.rules.specs.File.{byte_values}
 use Rattle.words.specs.Sets.{member}
-use Rattle.rows.proofs.bytes.row_byte.Statement.{statement}
-use Rattle.rows.proofs.bytes.row_byte.Tie as tie
+use Rattle.rows.proofs.bytes.row_byte.Goals as goal
 
 -- cell 8 j + i is digit i of word j / 8 from digit 8 (j % 8) on
 cell-digit : (ws : List ℕ) (j i : ℕ) → i < 8 → bit (get_or ws (j / 8) 0 / 2 ^ (8 * (j % 8))) i ≡ member ws (8 * j + i)
@@ -32,8 +30,11 @@ byte-cells ws j =
     let w = get_or ws (j / 8) 0 / 2 ^ (8 * (j % 8)) in
     low_byte w ∙ sym (word_cut 8 w) ∙ word_same 8 (bit w) (λ i. member ws (8 * j + i)) (cell-digit ws j)
 
-pub row-byte-spec : {M : Type 1} → statement M
-row-byte-spec =
-    tie.close (tie.spec (λ c. search rules) (λ c. omega (arith, c.before.requires)) (λ c. search rules) (λ c. search rules)
-    (λ c. record { fits = rw low_byte (omega arith) })
-    (λ c. byte-cells c.before.args.words.now c.before.args.j))
+pub bounds-words-j : goal.bounds-words-j
+bounds-words-j c = omega (arith, c.requires)
+
+pub overflow_cast-result : goal.overflow_cast-result
+overflow_cast-result c = record { fits = rw low_byte (omega arith) }
+
+pub returns : goal.returns
+returns c = byte-cells c.args.words.now c.args.j

@@ -19,13 +19,8 @@ use Rattle.rules.specs.Rows.{row_bytes, row_byte, row_of}
 use Rattle.rules.proofs.RowLaws.{row-length}
 use Rattle.words.specs.Sets.{cell_words, member}
 use Rattle.rows.specs.Room.{placed, Cells}
-use Rattle.rows.proofs.bytes.write_row.Statement.{statement}
-use Rattle.rows.proofs.bytes.write_row.Tie as tie
-
--- a buffer into which a row is written byte by byte: the first j bytes stand there
-record Begun (row : List ℕ) (at : ℕ) (before : List ℕ) (j : ℕ) (after : List ℕ) : Type 0 where
-  long : length after ≡ length before
-  so_far : after ≡ paste before at row j
+use Rattle.rows.proofs.bytes.write_row.Goals as goal
+use Rattle.rows.proofs.bytes.write_row.Invariants.{Begun}
 
 module _ (row : List ℕ) (at : ℕ) (before : List ℕ) where
   begun-none : Begun row at before 0 before
@@ -64,42 +59,25 @@ own-byte cells f own j l =
         (λ (q : cells ≤ c). rw (le-ltb c cells q) (own.none c q))
         (order c cells)
 
-abbrev invariant-loop : tie.invariant-loop
-invariant-loop out₀ at cells count words j₀ out j = (j ≤ count) × Begun (row_of cells (member words)) at out₀ j out
-
-abbrev decreases-loop : tie.decreases-loop
-decreases-loop out₀ at cells count words j₀ out j = count - j
-
-abbrev start : tie.At-loop invariant-loop decreases-loop → tie.Start invariant-loop decreases-loop
-start l = l.before.before.before.before
-
 -- a row has no more bytes than a set of cells
-row-byte-requires : tie.Need-row-byte-requires invariant-loop decreases-loop
+pub row_byte-requires : goal.row_byte-requires
 unfolding row_bytes ceil
-row-byte-requires c κs =
-    let s = start c.before.before in
-    let e : length s.args.set.words ≡ cell_words = search rules in
-    omega (arith, c.before.loop-test.true, c.before.before.before.before.row-bytes.ensures, s.pre.0.cells-bounded)
+row_byte-requires c =
+    let e : length c.args.set.words ≡ cell_words = search rules in
+    omega (arith, c.loop-j-test.true, c.row_bytes-count.ensures, c.requires.room.cells-bounded)
 
-loop-again : tie.Need-loop-preserved invariant-loop decreases-loop
-loop-again c =
-    let l = c.before.before.before in
-    let s = start l in
-    let f = member s.args.set.words in
-    let r = row-length s.args.cells f in
-    let byte = c.row-byte.ensures ∙ own-byte s.args.cells f s.pre.1 _ (omega arith) in
-    (omega arith, begun_more _ _ _ l.loop.invariant.1 (omega arith) (omega arith) _ byte)
+pub loop-j-preserved : goal.loop-j-preserved
+loop-j-preserved c =
+    let f = member c.args.set.words in
+    let r = row-length c.args.cells f in
+    let byte = c.row_byte.ensures ∙ own-byte c.args.cells f c.requires.cells _ (omega arith) in
+    (omega arith, begun_more _ _ _ c.loop-j.invariant.1 (omega arith) (omega arith) _ byte)
 
-returns : tie.Need-returns invariant-loop decreases-loop
+pub returns : goal.returns
 returns c =
-    let a = (start c.before).args in
+    let a = c.args in
     let r = row-length a.cells (member a.set.words) in
-    begun_all _ _ _ c.before.loop.invariant.1 (omega arith)
+    begun_all _ _ _ c.loop-j.invariant.1 (omega arith)
 
-pub write-row-spec : {M : Type 1} → statement M
-write-row-spec =
-    tie.close
-    (tie.spec invariant-loop decreases-loop (λ c κs. search rules)
-    (λ c. (omega arith, begun-none _ _ _))
-    (λ c. search rules) row-byte-requires (λ c. search rules) (λ c. search rules) (λ c. search rules)
-    (λ c. search rules) loop-again (λ c. search rules) returns)
+pub loop-j-init : goal.loop-j-init
+loop-j-init c = (omega arith, begun-none _ _ _)
