@@ -1,4 +1,6 @@
 // Marks: from what each input cell read to a byte for each net, and the numbers of pass, fail and unsure.
+#![tactic(auto)]
+
 ghost use Rattle.std.specs.Prelude.{◌≡◌, List, ℕ, ◌+◌, ◌*◌, ◌<◌, ◌≤◌, length};
 ghost use Rattle.rules.specs.Answers.{over};
 ghost use Rattle.base.specs.Tests as Base;
