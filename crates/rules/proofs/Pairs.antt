@@ -9,8 +9,7 @@ use mathlib.Core.List.{List, [], ◌∷◌, ◌++◌}
 use native.Mathlib.Omega.{arith}
 use borrow.Author.Tests.{ltb-true, eqb-false}
 use lib.Dec.{eqb, ltb}
-use Rattle.base.specs.Tests.{any}
-use Rattle.base.proofs.BoolLaws.{left, right, both, fails-if, fails-not, clashes, order}
+use Rattle.base.proofs.BoolLaws.{left, right, fails-if, fails-not, clashes, order}
 use Rattle.base.proofs.TestLaws.{any-member, Lowest, least-lowest, least_at}
 use Rattle.rules.specs.File.{Board, board_of, cells_of, nets_of, blocks_in}
 use Rattle.rules.specs.Drivers.{crosses}

@@ -1,5 +1,5 @@
 -- "Groups": the control cells that are on in each group, and the groups' rows. Assumes nothing.
-use Rattle.std.specs.Prelude.{ℕ, zero, suc, ◌+◌, Bool, true, false, cond, not, ◌&&◌, ◌||◌, List, [], ◌∷◌, ◌++◌, ltb, leb, eqb}
+use Rattle.std.specs.Prelude.{ℕ, zero, suc, Bool, true, false, cond, not, ◌&&◌, ◌||◌, List, [], ◌∷◌, ◌++◌, ltb, leb, eqb}
 use Rattle.base.specs.Lists.{has}
 use Rattle.rules.specs.Rows.{row_of}
 use Rattle.rules.specs.File.{Board, net_of}

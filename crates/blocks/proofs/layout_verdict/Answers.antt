@@ -1,9 +1,8 @@
 -- `blocks::layout_verdict` meets its contract, by the search for the lowest block that is wrong: as long as each lower head is right, the
 -- next is where one more is counted.
-use Rattle.std.proofs.Common.{◌-◌, [], sym, ◌∙◌, arith}
+use Rattle.std.proofs.Common.{[], sym, ◌∙◌, arith}
 use Rattle.base.proofs.TestLaws.{search-start, search-next}
 use Rattle.rules.specs.File.{blocks_in}
-use Rattle.rules.specs.Refusals.{block_wrong}
 use Rattle.rules.proofs.CheckLaws.{found, ended}
 use Rattle.blocks.proofs.Heading.{next-right, lower-right}
 use Rattle.blocks.proofs.Lengths.{right-length}

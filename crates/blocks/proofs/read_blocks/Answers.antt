@@ -1,5 +1,5 @@
 -- `blocks::read_blocks` meets its contract, by the search for the lowest block that reading refuses; on the way each head is counted.
-use Rattle.std.proofs.Common.{◌-◌, [], sym, ap, ◌∙◌, subst, arith}
+use Rattle.std.proofs.Common.{[], sym, ap, ◌∙◌, subst, arith}
 use Rattle.base.proofs.TestLaws.{search-start, search-next}
 use Rattle.rules.specs.File.{blocks_in, cells_of}
 use Rattle.rules.proofs.CheckLaws.{found, ended}

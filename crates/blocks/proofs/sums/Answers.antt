@@ -1,5 +1,5 @@
 -- `blocks::sums` meets its contract. The invariant: what is left of the bytes, added to the sums so far, gives the sums of all.
-use Rattle.std.proofs.Common.{◌-◌, sym, refl, ◌∙◌, arith}
+use Rattle.std.proofs.Common.{sym, refl, ◌∙◌, arith}
 use Rattle.rules.specs.File.{sums_of}
 use Rattle.blocks.proofs.SumLaws.{sums_next, sums-end}
 use Rattle.blocks.proofs.sums.Goals as goal

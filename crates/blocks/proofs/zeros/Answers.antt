@@ -1,5 +1,5 @@
 -- `blocks::zeros` meets its contract: the digits are none exactly where each byte so far is zero.
-use Rattle.std.proofs.Common.{◌-◌, ◌∙◌, arith}
+use Rattle.std.proofs.Common.{◌∙◌, arith}
 use Rattle.rules.specs.File.{byte_at}
 use Rattle.blocks.proofs.ZeroLaws.{zeros-none, zeros-next, zeros-end}
 use Rattle.blocks.proofs.zeros.Goals as goal

@@ -1,5 +1,4 @@
 -- The invariant: the sets are the tests' nets, as far as the cells below c go. One cell more is add_reading's.
-use Prim.Native.Nat.{◌-◌}
 use native.Mathlib.Omega.{arith}
 use Rattle.rules.specs.File.{board_of}
 use Rattle.rules.proofs.Shape.{laid, shaped}

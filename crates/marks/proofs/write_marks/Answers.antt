@@ -1,5 +1,4 @@
 -- The invariant: the marks of the nets below n stand in the buffer and are counted. One net more is one byte more of both.
-use Prim.Native.Nat.{◌-◌}
 use mathlib.Core.Path.{◌≡◌, ◌∙◌, ap}
 use native.Mathlib.Omega.{arith}
 use Rattle.rules.specs.Marks.{byte_of}

@@ -1,7 +1,7 @@
 -- A walk along k's chain, for a driver whose net has another number of drivers than the first's.
 use Prim.Native.Nat.{ℕ, ◌<◌}
 use mathlib.Core.Path.{◌≡◌, sym, ◌∙◌}
-use mathlib.Core.Bool.{true, false, not}
+use mathlib.Core.Bool.{true, false}
 use borrow.Author.Tests.{eq-eqb, ne_eqb}
 use native.Mathlib.Omega.{arith}
 use Rattle.base.proofs.BoolLaws.{left, both, not-fails}

@@ -1,5 +1,5 @@
 -- The search for the lowest control cell that has a pair.
-use Prim.Native.Nat.{◌-◌, ◌<◌}
+use Prim.Native.Nat.{◌<◌}
 use mathlib.Core.Path.{sym, ◌∙◌}
 use native.Mathlib.Omega.{arith}
 use Rattle.base.proofs.TestLaws.{search-start}

@@ -1,5 +1,5 @@
 -- A search over the partners of i above it: the net sets are compared pair by pair. A control cell that switches nothing has none.
-use Prim.Native.Nat.{◌*◌, ◌-◌, ◌<◌, ◌≤◌}
+use Prim.Native.Nat.{◌*◌, ◌<◌, ◌≤◌}
 use mathlib.Core.Path.{◌≡◌, sym, ◌∙◌}
 use native.Mathlib.Omega.{arith}
 use Rattle.rules.specs.File.{board_of, cells_of}

@@ -1,7 +1,6 @@
 -- A search over the partners of i above it: the net sets are compared pair by pair. A control cell that switches nothing has none.
 use Prim.Native.Nat.{◌-◌}
 use Rattle.rules.specs.File.{board_of}
-use Rattle.rules.specs.Drivers.{crosses}
 use Rattle.board.proofs.ControlChecks.{Uncrossed}
 use Rattle.board.proofs.controls.pair_from.Given as goal
 

@@ -1,5 +1,4 @@
 -- A blank table is that of no position; the invariant: that of the positions below c. One position more is enter's.
-use Prim.Native.Nat.{◌-◌}
 use mathlib.Core.Path.{◌≡◌}
 use native.Mathlib.Omega.{arith}
 use Rattle.rules.specs.File.{cells_of}

@@ -1,5 +1,4 @@
 -- n is where part j starts in a round, and `old` has the values of base vector j.
-use Prim.Native.Nat.{◌-◌}
 use mathlib.Core.Path.{◌≡◌, sym, ◌∙◌, ap}
 use native.Mathlib.Omega.{arith}
 use Rattle.plan.specs.Plans.{full_after, full_start, round_of}

@@ -1,5 +1,4 @@
 -- Entry by entry.
-use Prim.Native.Nat.{◌-◌}
 use Rattle.readings.proofs.MappedLaws.{mapping-none, mapping-long, entry_in, mapping-more, mapping-all}
 use Rattle.readings.proofs.codes.own_codes.Goals as goal
 

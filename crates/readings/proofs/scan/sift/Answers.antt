@@ -1,5 +1,5 @@
 -- Digit by digit.
-use Prim.Native.Nat.{ℕ, ◌-◌}
+use Prim.Native.Nat.{ℕ}
 use mathlib.Core.Path.{◌≡◌}
 use mathlib.Core.Bool.{Bool}
 use native.Mathlib.Omega.{arith}

@@ -1,5 +1,4 @@
 -- Entry by entry.
-use Prim.Native.Nat.{◌-◌}
 use native.Mathlib.Omega.{arith}
 use Rattle.readings.proofs.MappedLaws.{mapping-none, mapping-long, entry_in, mapping-more, mapping-all, byte_inside}
 use Rattle.readings.proofs.walk.clear.Goals as goal

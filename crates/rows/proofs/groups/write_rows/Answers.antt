@@ -1,10 +1,9 @@
 -- Row by row, with the cells of the groups so far.
-use Prim.Native.Nat.{ℕ, ◌+◌, ◌*◌, ◌-◌, ◌≤◌}
+use Prim.Native.Nat.{ℕ, ◌+◌, ◌*◌, ◌≤◌}
 use mathlib.Core.Path.{◌≡◌, sym}
 use native.Mathlib.Nat.{zero-mul, suc-mul}
 use native.Mathlib.Numerals.{add-one}
 use native.Mathlib.Omega.{arith}
-use Rattle.rules.specs.Groups as Groups
 use Rattle.rules.specs.Refusals.{most_cells}
 use Rattle.chains.proofs.Walks.{cells_fit}
 use Rattle.select.proofs.Passing.{earlier-none, board-size}

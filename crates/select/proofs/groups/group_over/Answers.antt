@@ -1,9 +1,7 @@
 -- The cells of groups 1 to j - 1, group by group.
-use Prim.Native.Nat.{◌-◌}
 use mathlib.Core.Path.{◌≡◌}
 use native.Mathlib.Omega.{arith}
 use native.Mathlib.Nat.{add-sub_cancel}
-use Rattle.rules.specs.Groups as Groups
 use Rattle.select.proofs.Passing.{earlier-none, earlier_more, group-is}
 use Rattle.select.proofs.groups.group_over.Goals as goal
 

@@ -1,5 +1,4 @@
 -- The highest drivers below c, grown position by position.
-use Prim.Native.Nat.{◌-◌}
 use native.Mathlib.Omega.{arith}
 use Rattle.select.proofs.Ordering.{ready-fits, ordered-none, ordered-all}
 use Rattle.select.proofs.order.fill_order.Goals as goal

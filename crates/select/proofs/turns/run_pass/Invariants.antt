@@ -1,5 +1,5 @@
 -- From every list that the sets hold at first: what is on now, and what is left of the pass over the highest drivers gives the whole.
-use Prim.Native.Nat.{ℕ, ◌-◌, ◌≤◌}
+use Prim.Native.Nat.{ℕ, ◌≤◌}
 use mathlib.Core.Path.{◌≡◌}
 use mathlib.Core.Bool.{Bool}
 use mathlib.Core.List.{List}

@@ -1,5 +1,5 @@
 -- `words::loops::cut` meets its contract: while a word has more than k ones, its highest is not among the k lowest, and can go.
-use Prim.Native.Nat.{◌-◌, ◌^◌, ◌<◌}
+use Prim.Native.Nat.{◌^◌, ◌<◌}
 use mathlib.Core.Path.{◌≡◌}
 use Rattle.base.specs.Digits.{bit}
 use Rattle.base.specs.Counting.{among}

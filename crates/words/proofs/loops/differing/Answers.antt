@@ -1,6 +1,6 @@
 -- `words::loops::differing` meets its contract: n counts the numbers of the first j words, and the ones of two words combined by ^ are
 -- those of the next.
-use Prim.Native.Nat.{ℕ, ◌+◌, ◌*◌, ◌-◌, ◌^◌, ◌≤◌, ◌<◌}
+use Prim.Native.Nat.{ℕ, ◌+◌, ◌*◌, ◌^◌, ◌≤◌, ◌<◌}
 use mathlib.Core.Path.{◌≡◌, sym, ◌∙◌, ap}
 use mathlib.Core.Bool.{xor}
 use mathlib.Core.List.{List}

@@ -1,5 +1,4 @@
 -- `words::loops::flip` meets its contract: the first j words hold the members of one and not the other, the others are as they were.
-use Prim.Native.Nat.{◌-◌}
 use mathlib.Core.Path.{refl}
 use mathlib.Core.Bool.{xor}
 use native.Mathlib.Omega.{arith}

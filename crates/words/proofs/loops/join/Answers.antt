@@ -1,5 +1,4 @@
 -- `words::loops::join` meets its contract: the first j words hold the members of both, the others are as they were.
-use Prim.Native.Nat.{◌-◌}
 use mathlib.Core.Path.{refl}
 use mathlib.Core.Bool.{◌||◌}
 use native.Mathlib.Omega.{arith}
