@@ -32,6 +32,8 @@ class Info:
         self.callee = {}
         self.clauses = {}
         self.typed = {}
+        self.arms = {}
+        self.renamed = {}
         names = list(d["places_by_name"])
         old = d["places"]
         real = [p for p in old if p[0] != "Untold"] if len(names) == len(old) - 1 or any(p[0] == "Untold" for p in old) else old
@@ -46,7 +48,10 @@ class Info:
             self.parent[o] = norm(p[1]) if p[1] else None
             self.step[o] = (norm(p[2][0]), p[2][1])
             self.callee[o] = p[3]
-            self.clauses[o] = d["clauses"][k] if k < len(d["clauses"]) else None
+            cl = d["clauses"][k] if k < len(d["clauses"]) else None
+            self.clauses[o] = cl["fields"] if isinstance(cl, dict) else cl
+            self.arms[o] = d["arms"][k] if k < len(d["arms"]) else None
+            self.renamed[o] = {norm(a): b for a, b in p[4]} if len(p) > 4 and p[4] else {}
             self.typed[o] = d["typed"][k] if k < len(d["typed"]) else []
         self.needs = [(norm(a), b) for a, b in d["needs"]]
         self.at = [norm(a[0]) for a in d["asked_at"]]
@@ -64,11 +69,12 @@ class Info:
 
     def find(self, place, field):
         """The step with the old name `field` seen from `place`, and the place that has it."""
-        p = place
-        while p is not None:
-            if self.step[p][0] == field:
-                return p
-            p = self.parent.get(p)
+        for f in (field, field[:1].lower() + field[1:]):
+            p = place
+            while p is not None:
+                if self.step[p][0] == f:
+                    return p
+                p = self.parent.get(p)
         return None
 
 
@@ -128,15 +134,12 @@ class File:
 
     # ---- expressions
 
-    def fields(self, place, root, fs):
+    def fields(self, place, root, fs, frm=None):
         """The new text of root.f1.f2.. for old fields from `place`, and what the result is."""
         inf = self.info
         while fs and fs[0] == "before":
-            place = inf.parent.get(place)
+            place = inf.parent.get(place) or place
             fs = fs[1:]
-            if place is None:
-                self.said("a .before past the start")
-                return None
         if not fs:
             return ("place", place)
         f = norm(fs[0])
@@ -147,10 +150,11 @@ class File:
         if f in ("ranges", "well-formed", "lifetimes"):
             return ("text", root + "." + fs[0] + "".join("." + x for x in fs[1:]), None, [])
         for suffix in ("",):
-            p = inf.find(place, f)
+            p = inf.find(place, f) or (frm and inf.find(frm, f))
             if p:
                 new = inf.step[p][1]
                 return ("text",) + self.step_fields(p, root + "." + new, fs[1:])
+            # a step whose fields went to an arm below it
         # typed facts
         self.said(f"no step {fs[0]} seen from {place}")
         return ("text", root + "." + ".".join(fs), None, [])
@@ -178,6 +182,17 @@ class File:
         inf = self.info
         if not fs:
             return text, ("step", p), []
+        arm = inf.arms.get(p)
+        if arm:
+            best = None
+            for newf, olds, sub in arm[2]:
+                if norm(olds) == inf.step[p][0] and fs[: len(sub)] == sub and sub and (best is None or len(sub) > len(best[1])):
+                    best = (newf, sub)
+            if best:
+                root = text[: text.rindex("." + inf.step[p][1])]
+                return root + "." + arm[0] + "." + best[0] + "".join("." + x for x in fs[len(best[1]) :]), None, []
+        if norm(fs[0]) in inf.renamed.get(p, {}):
+            return text + "." + inf.renamed[p][norm(fs[0])] + "".join("." + x for x in fs[1:]), None, []
         f = fs[0]
         loop = next((l for l in inf.loops if l[0] == inf.step[p][0]), None)
         if loop:
@@ -192,6 +207,8 @@ class File:
             f = TESTS[f]
         if f == "ensures":
             cl = inf.clauses.get(p)
+            if cl and len(cl) == 1:
+                return text + ".ensures." + cl[0] + "".join("." + x for x in fs[1:]), None, []
             if cl and len(cl) > 1:
                 k = 0
                 rest = fs[1:]
@@ -259,10 +276,7 @@ class File:
         end, root, place, text, al = a
         while s.startswith(".before", end) and not re.match(r"[A-Za-z0-9_'-]", s[end + 7 : end + 8] or " "):
             end += 7
-            place = self.info.parent.get(place)
-            if place is None:
-                self.said("a .before past the start")
-                return None
+            place = self.info.parent.get(place) or place
         return (end, root, place, text, al)
 
     def rewrite(self, s, env):
@@ -303,7 +317,7 @@ class File:
                         i = self.drop_space(s, i, out)
                         continue
                     if t and fs:
-                        r = self.fields(e[2], e[1], fs)
+                        r = self.fields(e[2], e[1], fs, e[4].frm)
                         if r and r[0] == "text" and r[2] is not None:
                             al = Alias(e[1])
                             al.text, al.kind = r[1], r[2]
@@ -316,6 +330,7 @@ class File:
                 e = self.place_expr(s, m.end() + 1, env)
                 if e and not FIELD.match(s, e[0]):
                     place, path, _ = self.helpers[m.group()]
+                    e = (e[0], e[1], place, None, e[4])
                     if path is not None:
                         out.append(e[1] + path)
                     elif e[4].frm == place or self.goal:
@@ -336,7 +351,7 @@ class File:
                     fs.append(f.group(1))
                     k = f.end()
                 if fs:
-                    r = self.fields(e[2], e[1], fs)
+                    r = self.fields(e[2], e[1], fs, e[4].frm)
                     if r and r[0] == "text":
                         out.append(r[1])
                         i = k
@@ -384,8 +399,7 @@ class File:
 
     def types(self, s):
         def need(m):
-            n = norm(m.group(1))
-            k = next((j for j, (a, _) in enumerate(self.info.needs) if a == n), None)
+            k = self.need_index(m.group(1))
             if k is None:
                 self.said(f"no need {m.group(1)}")
                 return m.group()
@@ -412,8 +426,15 @@ class File:
         m = re.search(r"tie\.Need-([A-Za-z0-9_-]+)", t)
         if not m:
             return None
-        n = norm(m.group(1))
-        return next((j for j, (a, _) in enumerate(self.info.needs) if a == n), None)
+        return self.need_index(m.group(1))
+
+    def need_index(self, name):
+        n = norm(name)
+        for x in (n, re.sub(r"^(?:overflow|nonzero)-", "", n)):
+            k = next((j for j, (a, _) in enumerate(self.info.needs) if a == x), None)
+            if k is not None:
+                return k
+        return next((j for j, (_, b) in enumerate(self.info.needs) if norm(b) == n), None)
 
 
 def binder_places(f, sig):
@@ -572,12 +593,19 @@ def convert(path, info, said):
                 sub[name] = f"l.initial.{v}" if initial and v in changed else f"l.{v}"
             rhs = re.sub(r"(?<![A-Za-z0-9_.'-])(" + "|".join(re.escape(x) for x in sorted(sub, key=len, reverse=True)) + r")(?![A-Za-z0-9_'₀-])(?! =)", lambda m: sub[m.group(1)], rhs)
             new = f"{kind}-{newl}"
-            inv_out.append("\n".join(com + [f"abbrev pub {new} : goal.{new}"] + unf + [f"{new} l ={rhs}"]))
+            x = "at" if re.search(r"(?<![A-Za-z0-9_.'-])l(?![A-Za-z0-9_.'-])", rhs) else "l"
+            if x != "l":
+                rhs = re.sub(r"(?<![A-Za-z0-9_.'-])l\.(?=[a-z])", "at.", rhs)
+            inv_out.append("\n".join(com + [f"abbrev pub {new} : goal.{new}"] + unf + [f"{new} {x} ={rhs}"]))
     # answers, in the order of the old file, then the inline ones
     done = set()
     helper_out = []
 
-    def answer(k, com, unf, binder, body, rest=""):
+    def answer(k, com, unf, binder, body, more=""):
+        extra = more.split()
+        if info.needs[k][0].endswith("requires") or re.search(r"requires-\d+$", info.needs[k][0]):
+            extra = extra[1:]
+        extra = [x for x in extra if x != "κs"]
         place = info.at[k]
         new = info.needs[k][1]
         f.goal = new
@@ -593,9 +621,9 @@ def convert(path, info, said):
                     said(f"{new}: not a tuple for {names}")
             else:
                 text = r
-        if trivial(text) and not unf:
+        if trivial(text) and not unf and not extra:
             return
-        ans_out.append("\n".join(com + [f"pub {new} : goal.{new}"] + unf + [f"{new} {binder} ={text}"]) + rest)
+        ans_out.append("\n".join(com + [f"pub {new} : goal.{new}"] + unf + [f"{' '.join([new, binder] + extra)} ={text}"]))
 
     for b in decls:
         if b is spec:
@@ -607,14 +635,14 @@ def convert(path, info, said):
         if name and (name.startswith("invariant-") or name.startswith("decreases-")) and "tie." in body.split("\n")[0]:
             continue
         if name and name in used and f.need_of(body) is not None:
-            eq = re.search(r"^" + re.escape(name) + r" (" + IDENT + r")((?: κs| _)*) =(.*)$", body, re.M | re.S)
+            eq = re.search(r"^" + re.escape(name) + r" (" + IDENT + r")((?: [^ =\n]+)*) =(.*)$", body, re.M | re.S)
             unf = [l for l in body.split("\n") if l.startswith("unfolding")]
             if not eq:
                 said(f"answer {name} not read")
                 continue
             for n, k in enumerate(used[name]):
                 done.add(k)
-                answer(k, com if n == 0 else [], unf, eq.group(1), eq.group(3))
+                answer(k, com if n == 0 else [], unf, eq.group(1), eq.group(3), eq.group(2))
             continue
         if name and name in used:
             for k in used[name]:
@@ -657,7 +685,7 @@ def convert(path, info, said):
         if re.fullmatch(IDENT, a):
             said(f"{info.needs[k][1]}: {a} is not declared here")
             continue
-        eq = re.match(r"\(λ (" + IDENT + r")((?: κs| _)*)\.(.*)\)$", a, re.S)
+        eq = re.match(r"\(λ (" + IDENT + r")((?: [^ .()]+)*)\.(.*)\)$", a, re.S)
         if not eq:
             if trivial(a):
                 continue
@@ -665,7 +693,7 @@ def convert(path, info, said):
             continue
         if re.fullmatch(r"\s*search rules\s*", eq.group(3)):
             continue
-        answer(k, [], spec_unf, eq.group(1), " " + eq.group(3).strip())
+        answer(k, [], spec_unf, eq.group(1), " " + eq.group(3).strip(), eq.group(2))
     for name, ks in used.items():
         if name in named and f.need_of(named[name]) is None:
             for k in ks:
@@ -691,11 +719,71 @@ def convert(path, info, said):
                 text = re.sub(r"^((?:(?:abbrev|pub) )*)" + re.escape(name) + r"(?= )", lambda m: m.group(1) + copy, text, flags=re.M)
                 old = info.new[f.helpers[name][0]]
                 f.seen_places.add(info.new[frm])
-                text = f.types(text).replace(old, info.new[frm], 1)
+                text = re.sub(r"(?<![A-Za-z0-9_'.-])" + re.escape(old) + r"(?![A-Za-z0-9_'-])", info.new[frm], f.types(text), count=1)
                 made[(name, frm)] = text
     for (name, frm), text in made.items():
         k = next((k for k, b in enumerate(ans_out) if re.search(r"^(?:(?:abbrev|pub) )*" + re.escape(name) + r" ", b, re.M)), None)
         ans_out[k] += "\n\n" + text
+    # a helper that only its copies are cited of goes
+    gone = True
+    while gone:
+        gone = False
+        for k, b in enumerate(list(ans_out)):
+            parts = b.split("\n\n")
+            keep = []
+            for part in parts:
+                body = "\n".join(l for l in part.split("\n") if not l.startswith("--"))
+                mm = re.match(r"(?:abbrev )?(" + IDENT + r")\s*:", body)
+                others = "\n".join(inv_out + [x for j, x in enumerate(ans_out) if j != k] + [x for x in parts if x is not part])
+                if mm and f.copies and mm.group(1) in f.helpers and not re.search(r"(?<![A-Za-z0-9_'.-])" + re.escape(mm.group(1)) + r"(?![A-Za-z0-9_'-])", others):
+                    gone = True
+                    com = "\n".join(l for l in part.split("\n") if l.startswith("--"))
+                    if com and parts.index(part) + 1 < len(parts):
+                        parts[parts.index(part) + 1] = com + "\n" + parts[parts.index(part) + 1]
+                    continue
+                keep.append(part)
+            ans_out[k] = "\n\n".join(keep)
+        ans_out[:] = [b for b in ans_out if b.strip()]
+    # the two ways to a join
+    def ways(b):
+        pos = b.find("⊎_elim")
+        while pos >= 0:
+            rest = b[pos + len("⊎_elim") :]
+            args_, i_ = [], 0
+            while len(args_) < 3 and i_ < len(rest):
+                if rest[i_].isspace():
+                    i_ += 1
+                    continue
+                if rest[i_] == "(":
+                    d_, j_ = 0, i_
+                    while True:
+                        d_ += rest[j_] == "("
+                        d_ -= rest[j_] == ")"
+                        j_ += 1
+                        if d_ == 0:
+                            break
+                else:
+                    m_ = re.match(r"[^\s)]+", rest[i_:])
+                    if not m_:
+                        break
+                    j_ = i_ + m_.end()
+                args_.append(rest[i_:j_])
+                i_ = j_
+            m_ = re.fullmatch(r"(.*)\.if-(\S+)\.branch", args_[2]) if len(args_) == 3 else None
+            if m_:
+                step = m_.group(2)
+                arms_ = []
+                for a_, way, yes in ((args_[0], "then", "true"), (args_[1], "else", "false")):
+                    l_ = re.fullmatch(r"\(λ (\S+)\. (.*)\)", a_, re.S)
+                    w_ = l_.group(1)
+                    x_ = re.sub(r"\b" + w_ + r"\.0\.(taken|true|left|false)", w_ + ".if-" + step + "." + yes, l_.group(2))
+                    x_ = re.sub(r"\b" + w_ + r"\.(2|1)(?!\.)", w_ + ".value-is", x_)
+                    arms_.append(f"{way}-{step} {w_} ↦ {x_}")
+                    f.seen_places.add(f"{way}-{step}")
+                b = b[:pos] + "elim " + args_[2] + " [ " + " | ".join(arms_) + " ]" + rest[i_:]
+            pos = b.find("⊎_elim", pos + 1)
+        return b
+    ans_out[:] = [ways(b) for b in ans_out]
     f.seen_places = {p for p in f.seen_places if re.search(r"(?<![A-Za-z0-9_'.-])" + re.escape(p) + r"(?![A-Za-z0-9_'-])|\)\." + re.escape(p) + r"(?![A-Za-z0-9_'-])", "\n".join(ans_out))}
     # what an invariant says by a definition of the file goes with it
     moved = True
@@ -715,6 +803,8 @@ def convert(path, info, said):
                             m2 = re.match(r"((?:abbrev |unfoldable )*)(.*)$", l_)
                             lines_[i_] = m2.group(1) + "pub " + m2.group(2)
                         break
+                if any("record " in l_ for l_ in lines_ if not l_.startswith("--")):
+                    lines_ = [re.sub(r"^  (?=" + IDENT + r" :)", "  pub ", l_) for l_ in lines_]
                 inv_out.insert(0, "\n".join(lines_))
                 shared.insert(0, name)
                 moved = True

@@ -1,6 +1,8 @@
 // A board file's blocks: bytes, little-endian numbers, the two sums, and refusals 1 to 5. The
 // definitions that the contracts cite are document 01's, in `rules`; what a block reads as stands
 // in specs/.
+#![tactic(auto)]
+
 ghost use Rattle.std.specs.Prelude.{◌≡◌, ◌+◌, ◌*◌, ◌^◌, ◌<◌, ◌≤◌, false, not, [], ◌∷◌, length};
 ghost use Rattle.rules.specs.File.{block_size, block_records, head_size, number_at, most_number, sums_of, sums_right, zeros, header_right, records_in, cell_block_right, blocks_in};
 ghost use Rattle.rules.specs.Refusals.{judge, once, each, wrong_length, within, outside, blocks_for, block_wrong, shape_checks};
@@ -16,7 +18,7 @@ use rules::{MOST_CELLS, MOST_NETS};
 const BYTE_VALUES: u16 = rules::BYTE_VALUES as u16;
 
 // The first four bytes of a block: its number, its kind, its record count.
-#[derive(Drop)]
+#[derive(Clone, Copy)]
 pub struct Head {
     pub number: u16,
     pub kind: u8,
@@ -24,27 +26,27 @@ pub struct Head {
 }
 
 // "Reading a block gives either its contents or a refusal with its place".
-#[derive(Drop)]
+#[derive(Clone, Copy)]
 pub enum Block {
     Holds(Head),
     Refused(rules::Refusal),
 }
 
 // What all blocks together leave for checks 3 and 5: so many, from block 0 on, have the head that the layout gives them.
-#[derive(Drop)]
+#[derive(Clone, Copy)]
 struct Heads {
     right: usize,
 }
 
 // Reading all blocks gives either this or the refusal of the lowest block that is refused.
-#[derive(Drop)]
+#[derive(Clone, Copy)]
 enum Blocks {
     Hold(Heads),
     Refused(rules::Refusal),
 }
 
 // C, N and SSOL.
-#[derive(Drop)]
+#[derive(Clone, Copy)]
 pub struct Sizes {
     pub cells: usize,
     pub nets: usize,

@@ -21,7 +21,7 @@ use rules::{Position, Verdict};
 use words::{NET_WORDS, NetSet, Relation};
 
 // What comparing the net sets of control cells finds: two that cross, the smaller position first, or none.
-#[derive(Drop)]
+#[derive(Clone, Copy)]
 pub enum Crossed {
     Pair(Position, Position),
     NoPair,

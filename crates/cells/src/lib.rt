@@ -1,5 +1,7 @@
 // Records and cells: what stands at a position of the board file, what the cell there drives, and
 // refusal 6.
+#![tactic(auto)]
+
 ghost use Rattle.std.specs.Prelude.{◌≡◌, ◌<◌, ◌/◌, ◌∷◌, [], ◌&&◌, ltb};
 ghost use Rattle.rules.specs.File.{record_at, of_kind2, record_of, broken_at, board_of, cells_of, nets_of, block_records, table_of, net_of};
 ghost use Rattle.rules.specs.Refusals.{judge, each, most_cells};
@@ -80,7 +82,7 @@ fn means(fits: bool, cell: Cell) -> Record
 }
 
 // "A record: cell kind (1 byte), on value (1), control position (2), net (2)".
-#[derive(Drop)]
+#[derive(Clone, Copy)]
 struct Fields {
     kind: u8,
     on: u8,

@@ -1,5 +1,7 @@
 // The one lent table of a board: chains of outputs by control cell and by net, and the numbers of
 // drivers. It is filled in `filling` and walked in `sharing`.
+#![tactic(auto)]
+
 ghost use Rattle.std.specs.Prelude.{◌≡◌, ◌+◌, ◌-◌, ◌<◌, ◌≤◌, get_or, set};
 ghost use Rattle.rules.specs.File.{board_of};
 ghost use Rattle.rules.specs.Refusals.{most_cells, most_nets};
@@ -25,7 +27,7 @@ const COUNTS: usize = 3 * MOST_CELLS + MOST_NETS;
 pub const TABLE: usize = 3 * MOST_CELLS + 2 * MOST_NETS;
 
 // A cell's key in a chain, if it has one.
-#[derive(Drop)]
+#[derive(Clone, Copy)]
 pub enum Key {
     Of(usize),
     Nothing,

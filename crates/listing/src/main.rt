@@ -164,7 +164,7 @@ fn list(file: &[u8], table: &mut [u16; TABLE]) -> bool
 }
 
 // What came of reading: how many bytes, or that a read failed.
-#[derive(Drop)]
+#[derive(Clone, Copy)]
 enum Input {
     Bytes(usize),
     Unread,

@@ -1,4 +1,6 @@
 // Marks: from what each input cell read to a byte for each net, and the numbers of pass, fail and unsure.
+#![tactic(auto)]
+
 ghost use Rattle.std.specs.Prelude.{◌≡◌, List, ℕ, ◌+◌, ◌*◌, ◌<◌, ◌≤◌, length};
 ghost use Rattle.rules.specs.Answers.{over};
 ghost use Rattle.base.specs.Tests as Base;
@@ -13,7 +15,7 @@ use rules::{Cell, Mark, Net, Position};
 use words::NetSet;
 
 // An input cell with the net that it is on, or something else.
-#[derive(Drop)]
+#[derive(Clone, Copy)]
 pub enum Reader {
     Of(Net),
     Nothing,
@@ -21,7 +23,7 @@ pub enum Reader {
 
 // What the readings say of the nets: which have an input cell, which have one that read something
 // else than the net's own word, and whose own word a cell of another net read.
-#[derive(Drop)]
+#[derive(Clone, Copy)]
 pub struct Tests {
     pub seen: NetSet,
     pub failed: NetSet,
@@ -29,7 +31,7 @@ pub struct Tests {
 }
 
 // How many nets have which kind of mark.
-#[derive(Drop)]
+#[derive(Clone, Copy)]
 pub struct Counts {
     pub pass: usize,
     pub fail: usize,

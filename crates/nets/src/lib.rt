@@ -1,4 +1,6 @@
 // Refusals 7 to 9: every net has an output, no two of its outputs clash, and it is not crowded.
+#![tactic(auto)]
+
 ghost use Rattle.std.specs.Prelude.{◌≡◌, true, false, ◌∷◌, [], ◌<◌, ◌≤◌};
 ghost use Rattle.rules.specs.File.{board_of, nets_of};
 ghost use Rattle.rules.specs.Refusals.{judge, each, clashing, net_checks, most_nets};

@@ -1,4 +1,6 @@
 // The plan: the nets' codes, the base vectors and the vectors between them, without building the sequence.
+#![tactic(auto)]
+
 pub mod boards;
 pub mod codes;
 pub mod steps;

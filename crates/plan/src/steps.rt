@@ -11,7 +11,7 @@ use rules::Step;
 use words::NetSet;
 
 // All that the weaving of vectors goes by: N, p, G and SSOL.
-#[derive(Drop)]
+#[derive(Clone, Copy)]
 pub struct Plan {
     pub nets: usize,
     pub wide: usize,

@@ -92,7 +92,7 @@ fn sift_byte(left: &mut [u8], j: usize, unlike: u8, entries: &[u16], changing: N
 }
 
 // Two rows of a capture to be held against each other, by where they begin. Two numbers are handed over in registers, three are not.
-#[derive(Drop)]
+#[derive(Clone, Copy)]
 pub(crate) struct Rows {
     pub(crate) at: usize,
     pub(crate) other: usize,

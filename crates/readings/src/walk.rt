@@ -16,14 +16,14 @@ use rules::{MOST_BYTES, Position};
 use words::NetSet;
 
 // Vector t of a capture, each of whose rows has so many bytes.
-#[derive(Drop)]
+#[derive(Clone, Copy)]
 struct Place {
     t: usize,
     bytes: usize,
 }
 
 // Part i of the plan: how many vectors are inserted after base vector i, and the vector at which the part begins.
-#[derive(Drop)]
+#[derive(Clone, Copy)]
 struct Span {
     i: usize,
     extra: usize,

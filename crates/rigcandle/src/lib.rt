@@ -1,4 +1,6 @@
 // The four questions for C. Each walks from the file's bytes to its answer once, and keeps nothing.
+#![tactic(auto)]
+
 ghost use Rattle.std.specs.Prelude.{◌≡◌};
 ghost use Rattle.rules.specs.Answers.{count_answer, count_outcome, groups_answer, groups_outcome, vector_answer, vector_outcome, marks_answer, marks_outcome};
 

@@ -21,7 +21,7 @@ use rows::vectors::write_vector;
 use rules::{MOST_CELLS, Refusal, Verdict, once};
 
 // What is left of refusals 1 to 12 where only the plan is asked for.
-#[derive(Drop)]
+#[derive(Clone, Copy)]
 pub(crate) enum Planned {
     Made(Plan),
     Refused(Refusal),

@@ -47,15 +47,15 @@ pub const MOST_FILE: usize = BLOCK_SIZE * MOST_BLOCKS;
 pub const MOST_BYTES: usize = (MOST_CELLS + 7) / 8;
 
 // A cell's position in the scan chain, from 0. Never used as a net number.
-#[derive(Drop)]
+#[derive(Clone, Copy)]
 pub struct Position(pub u16);
 
 // A net's number, from 0. Never used as a position.
-#[derive(Drop)]
+#[derive(Clone, Copy)]
 pub struct Net(pub u16);
 
 // A cell, one case for each kind of the board file's table.
-#[derive(Drop)]
+#[derive(Clone, Copy)]
 pub enum Cell {
     Internal,
     Input(Net),
@@ -69,28 +69,28 @@ pub enum Cell {
 
 // What the cell at a position drives: a controlled driver with its control cell and its net, or nothing
 // that a control cell switches.
-#[derive(Drop)]
+#[derive(Clone, Copy)]
 pub enum Driver {
     Of(Position, Net),
     Nothing,
 }
 
 // What a record says: a cell, or nothing that the table allows.
-#[derive(Drop)]
+#[derive(Clone, Copy)]
 pub enum Record {
     Means(Cell),
     Broken,
 }
 
 // The two sums of a block.
-#[derive(Drop)]
+#[derive(Clone, Copy)]
 pub struct Sums {
     pub a: u16,
     pub b: u16,
 }
 
 // A numbered refusal with its two places; the second is 0 where the refusal names one alone.
-#[derive(Drop)]
+#[derive(Clone, Copy)]
 pub struct Refusal {
     pub number: u8,
     pub place: u16,
@@ -98,21 +98,21 @@ pub struct Refusal {
 }
 
 // What checking answers.
-#[derive(Drop)]
+#[derive(Clone, Copy)]
 pub enum Verdict {
     Accepted,
     Refused(Refusal),
 }
 
 // A vector's place in the plan: base vector b, or the t-th inserted after it (t from 1).
-#[derive(Drop)]
+#[derive(Clone, Copy)]
 pub enum Step {
     Base(usize),
     Inserted(usize, usize),
 }
 
 // A net's mark.
-#[derive(Drop)]
+#[derive(Clone, Copy)]
 pub enum Mark {
     Pass,
     Fail,

@@ -92,7 +92,7 @@ module _ (b : Board) (s : Sound b) (which : Pass) (g : ℕ) (allowed : ℕ → B
       let own = s.checked.own-control c l is in
       let d-net = s.checked.own-net d m (or_left _ x) in
       let c-net = s.checked.own-net c l (or_left _ is) in
-      let same = degrees-equal b s (control_for b c) _ _ (record { on-board = own.0; is_control = own.1 }) d-net c-net (rw e at (driver-own b d m x)) (driver-own b c l is) in
+      let same = degrees-equal b s (control_for b c) _ _ (record { on-board = own.0; controlling = own.1 }) d-net c-net (rw e at (driver-own b d m x)) (driver-own b c l is) in
       both (both x (ap (wanted_at which g) same ∙ right (controlled b c) cw)) (ap allowed e ∙ right (controlled b c && wanted_in b which g (net_of (b.cell c))) o)
 
   -- a position leaves marked what is marked, and its own control cell, where open

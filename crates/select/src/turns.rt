@@ -13,7 +13,7 @@ use rules::{Driver, Position};
 use words::{NetSet, loops};
 
 // The two passes of a group.
-#[derive(Drop)]
+#[derive(Clone, Copy)]
 pub enum Pass {
     First,
     Second,
@@ -21,7 +21,7 @@ pub enum Pass {
 
 // What a pass goes by: which of the two it is, of which group, and over how many highest drivers, those that
 // the table holds.
-#[derive(Drop)]
+#[derive(Clone, Copy)]
 pub struct Rule {
     pub which: Pass,
     pub group: usize,

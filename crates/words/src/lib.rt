@@ -20,7 +20,7 @@ pub const CELL_WORDS: usize = (MOST_CELLS + 63) / 64;
 
 // How one set lies to another: no member in common, inside it, around it, the same, or crossing it.
 // The set of nothing lies inside every other.
-#[derive(Drop)]
+#[derive(Clone, Copy)]
 pub enum Relation {
     Apart,
     Inside,
@@ -30,7 +30,7 @@ pub enum Relation {
 }
 
 // A set of nets.
-#[derive(Drop)]
+#[derive(Clone, Copy)]
 pub struct NetSet {
     pub words: [u64; NET_WORDS],
 }
@@ -120,7 +120,7 @@ impl NetSet {
 }
 
 // A set of cells.
-#[derive(Drop)]
+#[derive(Clone, Copy)]
 pub struct CellSet {
     pub words: [u64; CELL_WORDS],
 }

@@ -1,0 +1,8 @@
+-- The fields stand one after the other.
+use native.Mathlib.Omega.{arith}
+use Rattle.rules.specs.Answers.{pack}
+use Rattle.rigcandle.proofs.packing.refusal_bits.Goals as goal
+
+pub returns : goal.returns
+unfolding pack
+returns c = omega arith

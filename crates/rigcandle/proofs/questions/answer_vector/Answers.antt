@@ -1,0 +1,101 @@
+-- The number, the room, then the row.
+use Prim.Native.Nat.{◌≤◌, ◌<◌}
+use mathlib.Core.Path.{◌≡◌, sym, ◌∙◌, ap}
+use mathlib.Core.List.{[], ◌∷◌}
+use native.Mathlib.Omega.{arith}
+use borrow.Author.Tests.{ltb-false, leb-false}
+use lib.Dec.{leb}
+use Rattle.rules.specs.Rows.{row_bytes}
+use Rattle.rules.specs.File.{board_of}
+use Rattle.rules.specs.Vectors.{total_of}
+use Rattle.rules.specs.Refusals.{judge, once, short, vector_checks, most_cells}
+use Rattle.rules.proofs.VectorsDriven.{vector-group}
+use Rattle.rules.proofs.Shape.{laid, shaped, one_block}
+use Rattle.rules.proofs.CheckLaws.{once-accepted}
+use Rattle.plan.proofs.PlanningLaws.{small-plan, total-is, groups-within}
+use Rattle.rigcandle.proofs.AnswerLaws.{Gives, vector-refused, vector-accepted, first-decides, second-decides, check-by}
+use Rattle.rigcandle.proofs.AdmittedLaws.{cells-within}
+use Rattle.rules.specs.Answers.{vector_outcome, vector_answer}
+use Rattle.rigcandle.proofs.questions.answer_vector.Goals as goal
+use Rattle.rigcandle.proofs.questions.answer_vector.Goals.{After-once-known, After-once-room, After-plan_of-plan, In-Accepted}
+
+small : (c : After-plan_of-plan) → c.read_sizes-cells.result.cells ≤ most_cells
+small c = cells-within _ c.requires.ready.accepted (c.read_sizes-cells.ensures.cells)
+
+-- the total is the board's
+total-of : (c : After-once-known) → c.total.result ≡ total_of (board_of (c.args.file.now))
+total-of c = c.total.ensures ∙ total-is _ _ c.plan_of-plan.ensures
+
+total-of-In-Accepted : (c : In-Accepted) → c.total.result ≡ total_of (board_of (c.args.file.now))
+total-of-In-Accepted c = c.total.ensures ∙ total-is _ _ c.plan_of-plan.ensures
+
+total-of-After-once-room : (c : After-once-room) → c.total.result ≡ total_of (board_of (c.args.file.now))
+total-of-After-once-room c = c.total.ensures ∙ total-is _ _ c.plan_of-plan.ensures
+
+-- what the number's check is, and the room's
+number_is : (c : After-once-known) → c.once-known.result ≡ judge (once 13 (leb (total_of (board_of (c.args.file.now))) (c.args.number)) ∷ [])
+number_is c = check-by (λ t. once 13 (leb t (c.args.number))) c.once-known.ensures (total-of c)
+
+number_is-After-once-room : (c : After-once-room) → c.once-known.result ≡ judge (once 13 (leb (total_of (board_of (c.args.file.now))) (c.args.number)) ∷ [])
+number_is-After-once-room c = check-by (λ t. once 13 (leb t (c.args.number))) c.once-known.ensures (total-of-After-once-room c)
+
+room-is : (c : After-once-room) → c.once-room.result ≡ judge (vector_checks (c.args.file.now) (c.args.number) (c.args.out.now))
+unfolding vector_checks
+room-is c =
+    let room = check-by (short (c.args.out.now)) c.once-room.ensures (c.row_bytes.ensures ∙ ap row_bytes (c.read_sizes-cells.ensures.cells)) in
+    second-decides _ c.requires.counted _ _ (number_is-After-once-room c) c.in-Accepted.is room
+
+pub returns-in_default : goal.returns-in_default
+unfolding vector_checks
+returns-in_default c =
+    let told = c.in_default.is in
+    let given : Gives c.verdict_bits.result c.args.out.now (vector_outcome (vector_answer c.args.file.now c.args.number c.args.out.now)) =
+    vector-refused c.verdict_bits.ensures told _ _ _ (first-decides _ c.requires.counted _ _ (number_is (goal.at.returns-in_default c).After-once-known) told) in
+    record { value = given.0; out_after = given.1 }
+
+pub returns-in_default-room : goal.returns-in_default-room
+returns-in_default-room c =
+    let given : Gives c.verdict_bits-in_default-room.result c.args.out.now (vector_outcome (vector_answer c.args.file.now c.args.number c.args.out.now)) =
+    vector-refused c.verdict_bits-in_default-room.ensures c.in_default-room.is _ _ _ (room-is (goal.at.returns-in_default-room c).After-once-room) in
+    record { value = given.0; out_after = given.1 }
+
+-- a known number is below it
+below : (c : In-Accepted) → c.args.number < total_of (board_of (c.args.file.now))
+below c =
+    rw (← total-of-In-Accepted c) (leb-false _ _ (once-accepted _ _ (sym c.once-known.ensures ∙ c.in-Accepted.is)))
+
+pub write_vector-group-requires : goal.write_vector-group-requires
+write_vector-group-requires c =
+    let room = ltb-false _ _ (once-accepted _ _ (sym c.once-room.ensures ∙ c.in-Accepted-room.is)) in
+    record {
+      ready = c.requires.ready;
+      cells_are = c.read_sizes-cells.ensures.cells;
+      planned = c.plan_of-plan.ensures;
+      below = below (goal.at.write_vector-group-requires c).In-Accepted;
+      long = rw (← c.row_bytes.ensures) room;
+    }
+
+pub group_bits-requires : goal.group_bits-requires
+group_bits-requires c =
+    let g = (vector-group (board_of (c.args.file.now)) (c.args.number) (below (goal.at.group_bits-requires c).In-Accepted)).1 in
+    let l = groups-within _ c.requires.ready.accepted in
+    omega (arith, c.write_vector-group.ensures.value)
+
+pub returns : goal.returns
+returns c =
+    let ok = sym (room-is (goal.at.returns c).After-once-room) ∙ c.in-Accepted-room.is in
+    let given : Gives c.group_bits.result c.write_vector-group.new.out (vector_outcome (vector_answer c.args.file.now c.args.number c.args.out.now)) =
+    vector-accepted _ _ _ c.group_bits.ensures ok c.write_vector-group.ensures.value c.write_vector-group.ensures.out_after in
+    record { value = given.0; out_after = given.1 }
+
+pub read_sizes-cells-requires : goal.read_sizes-cells-requires
+read_sizes-cells-requires c = one_block _ (laid _ (shaped _ c.requires.ready.by-control.checked))
+
+pub plan_of-plan-requires : goal.plan_of-plan-requires
+plan_of-plan-requires c = c.requires.ready
+
+pub total-requires : goal.total-requires
+total-requires c = small-plan _ c.requires.ready.accepted _ c.plan_of-plan.ensures
+
+pub row_bytes-requires : goal.row_bytes-requires
+row_bytes-requires c = let s = small (goal.at.row_bytes-requires c).After-plan_of-plan in omega arith

@@ -1,0 +1,59 @@
+-- Vector t's step gives its group and its nets' values, and these its row.
+use mathlib.Core.Path.{◌≡◌, sym, ◌∙◌, ap, subst}
+use native.Mathlib.Omega.{arith}
+use Rattle.rules.specs.File.{board_of}
+use Rattle.rules.specs.Vectors.{Vector, vector_at}
+use Rattle.rules.proofs.VectorsDriven.{vector-group}
+use Rattle.chains.proofs.Walks.{cells_fit}
+use Rattle.select.proofs.Passing.{board-size}
+use Rattle.plan.specs.Plans.{Small, Within}
+use Rattle.plan.proofs.MixLaws.{steps-within}
+use Rattle.plan.proofs.PlanningLaws.{small-plan, total-is, vector-is}
+use Rattle.rows.specs.Room.{Cells}
+use Rattle.rows.proofs.BitLaws.{own-cells, vector-written}
+use Rattle.rows.proofs.vectors.write_vector.Goals as goal
+use Rattle.rows.proofs.vectors.write_vector.Goals.{After-group_of-turn, After-step_at-step}
+
+-- the plan is small, and the step one of its own
+small : (c : After-step_at-step) → Small c.args.plan
+small c = small-plan _ c.requires.ready.accepted _ c.requires.planned
+
+within : (c : After-step_at-step) → Within c.args.plan c.step_at-step.result
+within c =
+    subst (Within c.args.plan) (sym c.step_at-step.ensures) (steps-within _ (small c) _ (rw (total-is _ _ c.requires.planned) c.requires.below))
+
+-- the group found is the vector's
+group-is : (c : After-group_of-turn) → c.group_of-turn.result ≡ (vector_at (board_of c.args.file.now) c.args.t).group
+group-is c =
+    c.group_of-turn.ensures ∙ ap (λ (v : Vector). v.group) (vector-is _ _ _ _ c.requires.planned c.step_at-step.ensures)
+
+pub group-on-requires : goal.group-on-requires
+group-on-requires c =
+    record { ready = c.requires.ready; cells_value = c.requires.cells_are; le_g = rw (group-is (goal.at.group-on-requires c).After-group_of-turn) (vector-group _ _ c.requires.below).0 }
+
+pub write_row-requires : goal.write_row-requires
+write_row-requires c =
+    let l = c.requires.long in
+    let e = c.requires.cells_are in
+    let f = cells_fit _ c.requires.ready.by-control.checked in
+    record { room = record { long = omega arith; cells-bounded = omega arith }; cells = subst (Cells _) (sym c.row_cells-row.ensures) (own-cells _ _) }
+
+pub returns : goal.returns
+returns c =
+    let v = vector-is _ _ _ _ c.requires.planned c.step_at-step.ensures in
+    let nets = c.values-nets.ensures ∙ ap (λ (v : Vector). v.value) v in
+    let size = board-size _ _ c.requires.cells_are in
+    let row = vector-written _ _ _ _ _ _ _ _ _ size (group-is (goal.at.returns c).After-group_of-turn) c.group-on.ensures.words_value nets c.row_cells-row.ensures c.write_row.ensures in
+    record { value = group-is (goal.at.returns c).After-group_of-turn; out_after = row; ready = c.group-on.ensures.ready_2 }
+
+pub step_at-step-requires : goal.step_at-step-requires
+step_at-step-requires c = record { small = small-plan _ c.requires.ready.accepted _ c.requires.planned; t_in_bounds = rw (total-is _ _ c.requires.planned) c.requires.below }
+
+pub group_of-turn-requires : goal.group_of-turn-requires
+group_of-turn-requires c = record { small = small c; within = within c }
+
+pub values-nets-requires : goal.values-nets-requires
+values-nets-requires c = record { small = small (goal.at.values-nets-requires c).After-step_at-step; within = within (goal.at.values-nets-requires c).After-step_at-step }
+
+pub row_cells-row-requires : goal.row_cells-row-requires
+row_cells-row-requires c = record { file_value = c.requires.ready.by-control.checked; cells_value = c.requires.cells_are }

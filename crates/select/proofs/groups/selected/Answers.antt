@@ -1,0 +1,18 @@
+-- The two passes, one after the other, from nothing.
+use mathlib.Core.Path.{refl}
+use borrow.Author.Rules.{rules}
+use Rattle.words.specs.Sets.{cell_words}
+use Rattle.words.proofs.SetLaws.{member-zeros}
+use Rattle.select.proofs.Passing.{holds-none, selected-is, board-size}
+use Rattle.select.proofs.groups.selected.Goals as goal
+
+pub returns : goal.returns
+returns c used e =
+    let none = holds-none _ _ (member-zeros cell_words) c.empty.ensures in
+    selected-is _ _ used _ _ _ e (board-size _ _ refl) (c.run_pass.ensures _ (c.run_pass-covered.ensures _ none))
+
+pub run_pass-covered-requires : goal.run_pass-covered-requires
+run_pass-covered-requires c = record { order = c.requires; earlier_len = (search rules, search rules) }
+
+pub run_pass-requires : goal.run_pass-requires
+run_pass-requires c = record { order = c.requires; earlier_len = (search rules, search rules) }
