@@ -1,6 +1,8 @@
 // The listing program: a board file on standard input; its vectors out, one a line, or its refusal.
 // Where it cannot read or write, it says so on standard error.
-ghost use Rattle.std.specs.Prelude.{◌≡◌, ℕ, ◌+◌, ◌*◌, ◌<◌, ◌≤◌, length};
+#![tactic(auto)]
+
+ghost use Rattle.std.specs.Prelude.{◌≡◌, ◌+◌, ◌*◌, ◌<◌, ◌≤◌, length, IfOk};
 ghost use Rattle.std.proofs.Math.Seq.{paste};
 ghost use Rattle.rules.specs.File.{board_of, cells_of};
 ghost use Rattle.rules.specs.Refusals.{most_bytes};
@@ -11,12 +13,14 @@ ghost use Rattle.plan.specs.Planning.{PlanOf};
 
 use blocks::read_sizes;
 use chains::TABLE;
-use libc::{STDERR_FILENO, STDIN_FILENO, STDOUT_FILENO};
 use plan::boards::{admit, plan_of};
 use plan::steps::{Plan, total};
 use rows::bytes::row_bytes;
 use rows::vectors::write_vector;
 use rules::{Refusal, Verdict};
+use std::fmt::InlineText;
+use std::io;
+use std::io::Read;
 
 // The longest file and a byte more: a longer one is refused, not cut.
 const ROOM: usize = rules::MOST_FILE + 1;
@@ -55,9 +59,8 @@ fn put_number(line: &mut [u8], at: usize, n: usize, end: u8) -> usize
     requires { at + 21 ≤ length line.old }
     ensures { result ≤ at + 21 }
 {
-    let mut digits = [0u8; 20];
-    let count = io::decimal(n as u64, &mut digits);
-    let next = put(line, at, &digits[..count]);
+    let digits = InlineText::<20>::of(n);
+    let next = put(line, at, digits.as_str().as_bytes());
     line[next] = end;
     next + 1
 }
@@ -83,16 +86,16 @@ fn put_row(line: &mut [u8], at: usize, row: &[u8]) -> usize
     next
 }
 
-// Writes the line up to its end, in one call. Answers whether it could, as does every function below
+// Writes the line up to its end, in one call. Fails where it cannot, as does every function below
 // that lists.
-fn say(line: &[u8], end: usize) -> bool
+fn say(rt: &impl Print, line: &[u8], end: usize) -> io::Result<()>
     requires { end ≤ length line.now }
 {
-    io::write_all(STDOUT_FILENO, &line[0..end])
+    rt.write_all(&line[0..end])
 }
 
 // The line of a vector: its number, its group, its row.
-fn say_row(t: usize, group: usize, row: &[u8]) -> bool
+fn say_row(rt: &impl Print, t: usize, group: usize, row: &[u8]) -> io::Result<()>
     requires { length row.now ≤ most_bytes }
 {
     let mut line = [0u8; LINE];
@@ -100,11 +103,18 @@ fn say_row(t: usize, group: usize, row: &[u8]) -> bool
     let row_at = put_number(&mut line, group_at, group, b' ');
     let end_at = put_row(&mut line, row_at, row);
     let end = put(&mut line, end_at, b"\n");
-    say(&line, end)
+    say(rt, &line, end)
 }
 
 // Vector t of an admitted board, as a line; the table can be used again.
-fn say_vector(file: &[u8], table: &mut [u16; TABLE], cells: usize, plan: Plan, t: usize) -> bool
+fn say_vector(
+    rt: &impl Print,
+    file: &[u8],
+    table: &mut [u16; TABLE],
+    cells: usize,
+    plan: Plan,
+    t: usize,
+) -> io::Result<()>
     requires ready { Ready file.now table.old }
     requires cells_value { cells ≡ cells_of file.now }
     requires plan_of { PlanOf (board_of file.now) plan }
@@ -114,103 +124,83 @@ fn say_vector(file: &[u8], table: &mut [u16; TABLE], cells: usize, plan: Plan, t
     let mut row = [0u8; ROW];
     let group = write_vector(file, table, cells, plan, t, &mut row);
     let bytes = row_bytes(cells);
-    say_row(t, group, &row[0..bytes])
+    say_row(rt, t, group, &row[0..bytes])
 }
 
 // The line of the vector total.
-fn say_total(vectors: usize) -> bool {
+fn say_total(rt: &impl Print, vectors: usize) -> io::Result<()> {
     let mut line = [0u8; LINE];
     let at = put(&mut line, 0, b"vectors ");
     let end = put_number(&mut line, at, vectors, b'\n');
-    say(&line, end)
+    say(rt, &line, end)
 }
 
 // The vector total, and then a line for each vector, up to the first that cannot be written.
-fn say_vectors(file: &[u8], table: &mut [u16; TABLE]) -> bool
+fn say_vectors(rt: &impl Print, file: &[u8], table: &mut [u16; TABLE]) -> io::Result<()>
     requires { Ready file.now table.old }
 {
     let cells = read_sizes(file).cells;
     let plan = plan_of(file, table);
     let vectors = total(plan);
-    if !say_total(vectors) {
-        return false;
-    }
+    say_total(rt, vectors)?;
     for t in 0..vectors {
-        if !say_vector(file, table, cells, plan, t) {
-            return false;
-        }
+        say_vector(rt, file, table, cells, plan, t)?;
     }
-    true
+    Ok(())
 }
 
 // The line of a refusal: number and place.
-fn say_refusal(refusal: Refusal) -> bool {
+fn say_refusal(rt: &impl Print, refusal: Refusal) -> io::Result<()> {
     let mut line = [0u8; LINE];
     let number_at = put(&mut line, 0, b"refused ");
     let place_at = put_number(&mut line, number_at, refusal.number as usize, b' ');
     let end = put_number(&mut line, place_at, refusal.place as usize, b'\n');
-    say(&line, end)
+    say(rt, &line, end)
 }
 
-// Checks the board once, and lists it. Answers whether every line could be written.
-fn list(file: &[u8], table: &mut [u16; TABLE]) -> bool
+// Checks the board once, and lists it.
+fn list(rt: &impl Print, file: &[u8], table: &mut [u16; TABLE]) -> io::Result<()>
     requires { Blank table.old }
 {
     let admitted = admit(file, table);
     match admitted {
-        Verdict::Accepted => say_vectors(file, table),
-        Verdict::Refused(refusal) => say_refusal(refusal),
+        Verdict::Accepted => say_vectors(rt, file, table),
+        Verdict::Refused(refusal) => say_refusal(rt, refusal),
     }
-}
-
-// What came of reading: how many bytes, or that a read failed.
-#[derive(Clone, Copy)]
-enum Input {
-    Bytes(usize),
-    Unread,
 }
 
 // One read, into the file from a place on: 0 bytes at the input's end.
-fn read_from(file: &mut [u8], from: usize) -> Input
+fn read_from(input: &mut impl Read, file: &mut [u8], from: usize) -> io::Result<usize>
     requires { from ≤ length file.old }
-    ensures { (n : ℕ) → result ≡ Input.Bytes n → from + n ≤ length file.old }
+    ensures { IfOk result (λ n. from + n ≤ length file.old) }
 {
-    let rest = &mut file[from..];
-    let got = libc::read(STDIN_FILENO, rest);
-    if got < 0 {
-        return Input::Unread;
-    }
-    Input::Bytes(io::count(got, rest))
+    input.read(&mut file[from..])
 }
 
-// Reads to the input's end, or until the file is full. Not io::read_full, which takes a read that
-// fails for the end.
-fn read_input(file: &mut [u8]) -> Input
-    ensures { (n : ℕ) → result ≡ Input.Bytes n → n ≤ length file.old }
+// Reads to the input's end, or until the file is full, and answers how many bytes. A read that fails
+// is not taken for the end.
+fn read_input(input: &mut impl Read, file: &mut [u8]) -> io::Result<usize>
+    ensures { IfOk result (λ n. n ≤ length file.old) }
 {
     let mut done = 0;
     while done < file.len() {
-        let read = read_from(file, done);
-        let Input::Bytes(more) = read else {
-            return Input::Unread;
-        };
+        let more = read_from(input, file, done)?;
         if more == 0 {
-            return Input::Bytes(done);
+            return Ok(done);
         }
         done += more;
     }
-    Input::Bytes(done)
+    Ok(done)
 }
 
-fn main() {
+fn main(rt: HostRuntime) {
     let mut file = [0u8; ROOM];
     let mut table = [0u16; TABLE];
-    let input = read_input(&mut file);
-    let Input::Bytes(n) = input else {
-        io::write_all(STDERR_FILENO, b"listing: cannot read\n");
+    let Ok(n) = read_input(&mut rt.stdin(), &mut file) else {
+        let _ = eprintln!(rt; "listing: cannot read");
         return;
     };
-    if !list(&file[0..n], &mut table) {
-        io::write_all(STDERR_FILENO, b"listing: cannot write\n");
+    if list(&rt, &file[0..n], &mut table).is_err() {
+        let _ = eprintln!(rt; "listing: cannot write");
     }
 }
