@@ -29,9 +29,9 @@ PROGRAM := target/cli/rigcandle
 LOOK := target/cli/look
 BENCH := rigcandle-$(VERSION)-x86_64
 
-# What the archive is proved from: every file of the crates that are no program, but for the edits that must fail.
+# What the archive is proved from: every file of the crates that are no program, but for the edits that must fail and what rt made.
 PROGRAMS := $(patsubst %/src/main.rt,%,$(wildcard crates/*/src/main.rt))
-PROVED := crates.txt $(shell find $(filter-out $(PROGRAMS),$(wildcard crates/*)) -name must-fail -prune -o -type f -print)
+PROVED := crates.txt $(shell find $(filter-out $(PROGRAMS),$(wildcard crates/*)) -regex 'crates/[^/]*/\(must-fail\|out\)' -prune -o -type f -print)
 
 HEADERS := include/rigcandle.h $(wildcard cli/*.h)
 SOURCES := $(filter-out cli/look.c,$(wildcard cli/*.c))

@@ -49,10 +49,10 @@ def damaged_boards(rng, share):
 def listing_program():
     """The words that start it; None where it is not there and nobody has named it."""
     named = os.environ.get("RIGCANDLE_LISTING")
-    found = named or os.path.join(ROOT, "target", "bin", "listing")
+    found = named or os.path.join(ROOT, "crates", "listing", "out", "listing")
     if named or os.path.exists(found):
         return [*os.environ.get("RIGCANDLE_LOADER", "").split(), found]
-    print("command: no target/bin/listing (rt makes it): list is compared with tests/reference alone")
+    print("command: no crates/listing/out/listing (rt ci makes it): list is compared with tests/reference alone")
     return None
 
 

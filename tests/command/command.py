@@ -3,7 +3,8 @@
     python3 command.py PROGRAM..               every part; PROGRAM.. are the words that start the command
     python3 command.py --sanitized PROGRAM..   a good part of it, and the fuzz: for a program compiled with sanitizers
 
-RIGCANDLE_SEED=n draws the same boards, captures and texts again; RIGCANDLE_LISTING=file is the listing program, unless it is target/bin/listing.
+RIGCANDLE_SEED=n draws the same boards, captures and texts again; RIGCANDLE_LISTING=file is the listing program, unless it is
+crates/listing/out/listing.
 """
 
 import os
