@@ -23,3 +23,5 @@ pub mod Outcomes
 pub mod Pairs
 pub mod Figures
 pub mod RowLaws
+pub mod PublishedLaws
+pub mod PublishedFigures
