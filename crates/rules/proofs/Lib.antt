@@ -25,3 +25,5 @@ pub mod Figures
 pub mod RowLaws
 pub mod PublishedLaws
 pub mod PublishedFigures
+pub mod AnswerBounds
+pub mod CountedMarks
