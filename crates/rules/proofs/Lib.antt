@@ -27,3 +27,5 @@ pub mod PublishedLaws
 pub mod PublishedFigures
 pub mod AnswerBounds
 pub mod CountedMarks
+pub mod RefusalNumbers
+pub mod ReadBack
