@@ -29,3 +29,4 @@ pub mod AnswerBounds
 pub mod CountedMarks
 pub mod RefusalNumbers
 pub mod ReadBack
+pub mod BuffersDriven
