@@ -5,3 +5,4 @@ pub mod Lengths
 pub mod ReadingLaws
 pub mod Heading
 pub mod Shaping
+pub mod BlocksOnce

@@ -7,3 +7,4 @@ pub mod Entering
 pub mod Gathering
 pub mod SharingLaws
 pub mod Brought
+pub mod ChainsOnce

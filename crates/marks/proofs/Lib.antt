@@ -3,3 +3,4 @@ pub mod InputLaws
 pub mod TestedLaws
 pub mod MarkedLaws
 pub mod MarksByReadings
+pub mod MarksOnce

@@ -9,7 +9,7 @@ use borrow.Author.Tests.{leb-true, leb-false}
 use lib.Dec.{leb}
 use Rattle.base.specs.Tests.{all}
 use Rattle.base.specs.Digits.{bit, word}
-use Rattle.base.proofs.BoolLaws.{Decided, decided, passes-if, fails-if, beq-true, beq-false}
+use Rattle.base.proofs.BoolLaws.{Decided, decided, passes-if, fails-if, order, beq-true, beq-false}
 use Rattle.base.proofs.TestLaws.{all-at, all-fails, Lowest, least-lowest}
 use Rattle.base.proofs.DigitLaws.{word_same, word-bits, word_none, word-full, below-pow}
 use Rattle.rules.specs.Vectors.{code_width, code_bit}
@@ -28,6 +28,11 @@ width-least nets = (enough, λ q k. leb-false (nets + 2) (2 ^ q) (found.lower q 
         (λ (e : code_width nets ≡ nets + 2). rw e (omega (arith, below-pow (nets + 2))))
         (λ (k : code_width nets < nets + 2). leb-true (nets + 2) (2 ^ code_width nets) (found.passes k))
         (eq-or-lt_of_le found.under)
+
+-- and so at most k where 2 ^ k holds every code
+pub width-bounded : (k nets : ℕ) → nets + 2 ≤ 2 ^ k → code_width nets ≤ k
+width-bounded k nets h =
+    ⊎_elim (λ (l : k < code_width nets). absurd (omega (arith, (width-least nets).1 k l))) (λ (l : code_width nets ≤ k). l) (order k (code_width nets))
 
 -- a code that is not the word of f has a pattern whose bit is not f's
 code-not : (p i : ℕ) (f : ℕ → Bool) → i + 2 ≤ 2 ^ p → (i + 1 ≡ word p f → ⊥) → (k : ℕ) × (k < p) × (code_bit p k i ≡ f (p - (k + 1)) → ⊥)

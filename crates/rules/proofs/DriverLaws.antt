@@ -115,6 +115,11 @@ module _ (b : Board) (c : ℕ) where
   unfolding is_control
   control-kind h = ⊎_map (eqb-true _ _) (λ x. x) (or_cases (eqb (kind_of (b.cell c)) 2) h)
 
+  -- a three-state output is a driver
+  pub three-driver : kind_of (b.cell c) ≡ 3 → controlled b c ≡ true
+  unfolding controlled driver_at
+  three-driver e = driver-kinds c (b.cell c) ∙ or_left _ (eq-eqb _ _ e)
+
   -- a three-state output has the control cell that it names
   pub three-control : kind_of (b.cell c) ≡ 3 → control_for b c ≡ control_of (b.cell c)
   unfolding control_for driver_at control_in

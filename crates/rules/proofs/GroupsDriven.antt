@@ -1,7 +1,7 @@
 -- Theorem 3, demand 3 on groups, from acceptance alone: in each group exactly one output is on at every net; a control cell has its turn in
 -- exactly one of the first d groups, d the number of controlled drivers at its nets; one that switches nothing is never on.
 use Prim.Native.Nat.{ℕ, zero, suc, ◌+◌, ◌<◌, ◌≤◌}
-use mathlib.Core.Path.{◌≡◌, sym, ◌∙◌, ap}
+use mathlib.Core.Path.{◌≡◌, refl, sym, ◌∙◌, ap}
 use mathlib.Core.Logic.{⊎_elim}
 use mathlib.Core.Bool.{Bool, true, false, ◌&&◌, ◌||◌, false≢true}
 use mathlib.Core.List.{List}
@@ -30,7 +30,28 @@ use Rattle.rules.proofs.Selection.{Sound, sound, selected-cell, selected-apart, 
 abbrev pub live : Board → (ℕ → Bool) → ℕ → ℕ → Bool
 live b on n c = output_of b n c && (always_on b c || on (control_for b c))
 
+-- how many outputs of a net are on goes by the control cells of its drivers alone
+pub live-count :
+    (b : Board) (on on' : ℕ → Bool) (n : ℕ) →
+    ((c : ℕ) → c < b.size → driver_of b n c ≡ true → on (control_for b c) ≡ on' (control_for b c)) →
+    count b.size (live b on n) ≡ count b.size (live b on' n)
+unfolding output_of driver_of
+live-count b on on' n h = count_same b.size _ _ (λ c l. go (on_net b n c) (controlled b c) (always_on b c) (h c l))
+  where
+    go : (x y a : Bool) {p q : Bool} → ((x && y) ≡ true → p ≡ q) → (x && (y || a) && (a || p)) ≡ (x && (y || a) && (a || q))
+    go true true a e = ap (λ (p : Bool). a || p) (e refl)
+    go true false true e = refl
+    go true false false e = refl
+    go false y a e = refl
+
 module _ (b : Board) (s : Sound b) where
+  -- a driver's control cell is one
+  pub own-cell : (n c : ℕ) → c < b.size → driver_of b n c ≡ true → ControlCell b (control_for b c)
+  unfolding driver_of
+  own-cell n c l h =
+      let own = s.checked.own-control c l (right (on_net b n c) h) in
+      record { on-board = own.0; controlling = own.1 }
+
   -- only control cells that switch something are on
   pub on-cell : (g k : ℕ) → on_in b g k ≡ true → (n : ℕ) × (n < b.nets) × Affects b k n × ControlCell b k
   unfolding on_in group has

@@ -23,3 +23,10 @@ pub mod Outcomes
 pub mod Pairs
 pub mod Figures
 pub mod RowLaws
+pub mod PublishedLaws
+pub mod PublishedFigures
+pub mod AnswerBounds
+pub mod CountedMarks
+pub mod RefusalNumbers
+pub mod ReadBack
+pub mod BuffersDriven

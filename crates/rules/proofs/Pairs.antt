@@ -216,6 +216,19 @@ module _ (file : List ℕ) where
   unfolding marks_checks ordinary
   marks-says capture buffer = say-append _ (count_checks file) _ count-says (λ h. (plain refl (omega arith), λ p. last refl))
 
+  -- and so what each question's refusal says
+  pub count-refusal : (r : Refusal) → judge (count_checks file) ≡ Refused r → Says board r
+  count-refusal r e = first_says _ _ count-says r (given-first _ r e)
+
+  pub groups-refusal : (buffer : List ℕ) (r : Refusal) → judge (groups_checks file buffer) ≡ Refused r → Says board r
+  groups-refusal buffer r e = first_says _ _ (groups-says buffer) r (given-first _ r e)
+
+  pub vector-refusal : (number : ℕ) (buffer : List ℕ) (r : Refusal) → judge (vector_checks file number buffer) ≡ Refused r → Says board r
+  vector-refusal number buffer r e = first_says _ _ (vector-says number buffer) r (given-first _ r e)
+
+  pub marks-refusal : (capture buffer : List ℕ) (r : Refusal) → judge (marks_checks file capture buffer) ≡ Refused r → Says board r
+  marks-refusal capture buffer r e = first_says _ _ (marks-says capture buffer) r (given-first _ r e)
+
 -- the 64 bits of an answer: "Bits 0-7: the refusal's number", "8-23 place; 24-39 the second place"
 abbrev pub number_in : ℕ → ℕ
 number_in bits = bits % 2 ^ 8

@@ -58,7 +58,7 @@ module _ (b : Board) where
         go true e = f (left (open_at c) _ e) (fails-not _ (right (open_at c) e))
         go false e = g
 
-    turn-keeps : (c : ℕ) (on : List ℕ) (k : ℕ) → has k on ≡ true → has k (turn b wanted allowed c on) ≡ true
+    pub turn-keeps : (c : ℕ) (on : List ℕ) (k : ℕ) → has k on ≡ true → has k (turn b wanted allowed c on) ≡ true
     turn-keeps c on k h = turn_is c on (λ r. has k r ≡ true) (λ o m. has_there k (control_for b c) on h) h
 
     turn-apart : (c : ℕ) (on : List ℕ) → Apart on → Apart (turn b wanted allowed c on)

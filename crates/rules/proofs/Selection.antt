@@ -137,15 +137,14 @@ module _ (b : Board) (s : Sound b) where
         absurd (omega arith))
         (second-members k h)
 
-    -- a net of degree g or more is covered where every such net has as many unused control cells as its degree says
-    covered-first :
+    -- a net of degree g or more is covered by the first pass where every such net has as many unused control cells as its degree says
+    first-covered :
         (j : ℕ) → ((m : ℕ) → m < b.nets → g ≤ degree b m → count b.size (available b (fresh before) m) + j ≡ degree b m) → j < g →
-        (n : ℕ) → n < b.nets → g ≤ degree b n → Covered b (selected b g before) n
-    unfolding first_pass selected second_pass controls
-    covered-first j left_over j<g n l d =
+        (n : ℕ) → n < b.nets → g ≤ degree b n → Covered b (first_pass b g before) n
+    unfolding first_pass controls
+    first-covered j left_over j<g n l d =
         let at_n = left_over n l d in
-        let t = covered-by b s.require (fresh before) (first_pass b g before) n l passed (omega arith) in
-        (t.0, pass-keeps b _ _ b.size _ t.0 t.1, t.2)
+        covered-by b s.require (fresh before) (first_pass b g before) n l passed (omega arith)
       where
         passed : Passed b (fresh before) (first_pass b g before) n
         passed =
@@ -160,6 +159,15 @@ module _ (b : Board) (s : Sound b) where
                   let at-m = left_over m v (omega arith) in
                   omega arith;
             }
+
+    -- a net of degree g or more is covered where every such net has as many unused control cells as its degree says
+    covered-first :
+        (j : ℕ) → ((m : ℕ) → m < b.nets → g ≤ degree b m → count b.size (available b (fresh before) m) + j ≡ degree b m) → j < g →
+        (n : ℕ) → n < b.nets → g ≤ degree b n → Covered b (selected b g before) n
+    unfolding selected second_pass
+    covered-first j left_over j<g n l d =
+        let t = first-covered j left_over j<g n l d in
+        (t.0, pass-keeps b _ _ b.size _ t.0 t.1, t.2)
 
     -- and a net of lower degree is covered by the second pass
     covered-second : (n : ℕ) → n < b.nets → degree b n < g → 0 < degree b n → Covered b (selected b g before) n
@@ -233,6 +241,11 @@ module _ (b : Board) (s : Sound b) where
       let more = one_more j n l d T.0 T.1 T.2 in
       let so_far = uses j n l (omega arith) in
       omega arith
+
+  -- the first pass of each group covers every net whose degree is the group's number or more
+  pub first-covers : (j n : ℕ) → n < b.nets → j < degree b n → Covered b (first_pass b (suc j) (earlier b j)) n
+  first-covers j n l d =
+      first-covered (suc j) (earlier b j) j (λ m v e. left_over j m (uses j m v (omega arith))) (omega arith) n l d
 
   -- every group covers every net that has control cells
   pub covered : (j n : ℕ) → n < b.nets → 0 < degree b n → Covered b (group b (suc j)) n

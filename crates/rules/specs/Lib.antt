@@ -3,6 +3,7 @@ pub mod Rows
 pub mod File
 pub mod Drivers
 pub mod Groups
+pub mod Published
 pub mod Vectors
 pub mod Lines
 pub mod Marks

@@ -4,3 +4,4 @@ pub mod Passing
 pub mod Largest
 pub mod Highest
 pub mod Ordering
+pub mod SelectOnce
