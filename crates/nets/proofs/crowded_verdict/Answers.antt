@@ -30,8 +30,7 @@ returns-then-drivers_on-gt-MOST_DRIVERS c =
 pub loop-n-preserved : goal.loop-n-preserved
 loop-n-preserved c =
     let e = c.drivers_on.ensures in
-    let t = c.if-drivers_on-gt-MOST_DRIVERS.false in
-    search-next c.loop-n.invariant c.loop-n-test.true (not-over _ _ _ e t)
+    search-next c.loop-n.invariant c.loop-n-test.true (not-over _ _ _ e (omega arith))
 
 pub loop-n-init : goal.loop-n-init
 loop-n-init c = search-start _ _

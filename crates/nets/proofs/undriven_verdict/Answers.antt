@@ -1,12 +1,20 @@
 -- The search for the lowest net that fails.
-use mathlib.Core.Path.{sym, ◌∙◌}
-use mathlib.Core.List.{[]}
+use Prim.Native.Nat.{ℕ}
+use mathlib.Core.Path.{◌≡◌, sym, ◌∙◌}
+use mathlib.Core.Bool.{false}
+use mathlib.Core.List.{List, []}
 use borrow.Author.Tests.{eq-eqb, ne_eqb}
 use native.Mathlib.Omega.{arith}
 use Rattle.base.proofs.TestLaws.{search-start, search-next}
 use Rattle.rules.proofs.CheckLaws.{found, ended}
+use Rattle.chains.specs.Table.{NetOf, head_in}
 use Rattle.nets.specs.Nets.{undriven_in}
 use Rattle.nets.proofs.undriven_verdict.Goals as goal
+
+-- a head that is not 0 was read
+driven : (table : List ℕ) (n r : ℕ) → r ≡ head_in NetOf table n → (r ≡ 0 → ⊥) → undriven_in table n ≡ false
+unfolding undriven_in
+driven table n r e h = ne_eqb (head_in NetOf table n) 0 (λ z. h (e ∙ z))
 
 pub returns-then-net_head-eq0 : goal.returns-then-net_head-eq0
 unfolding undriven_in
@@ -16,11 +24,9 @@ returns-then-net_head-eq0 c =
     c.refuse.ensures ∙ sym (found 7 [] c.loop-n.invariant c.loop-n-test.true (eq-eqb _ _ (sym e ∙ t)))
 
 pub loop-n-preserved : goal.loop-n-preserved
-unfolding undriven_in
 loop-n-preserved c =
-    let e = c.net_head.ensures in
-    let t = c.if-net_head-eq0.false in
-    search-next c.loop-n.invariant c.loop-n-test.true (ne_eqb _ _ (λ z. t (e ∙ z)))
+    let read : c.net_head.result ≡ 0 → ⊥ = λ z. omega arith in
+    search-next c.loop-n.invariant c.loop-n-test.true (driven _ _ _ c.net_head.ensures read)
 
 pub loop-n-init : goal.loop-n-init
 loop-n-init c = search-start _ _
