@@ -237,7 +237,9 @@ module _ (b : Board) (known : Known b) (k : ℕ) where
 
 -- over a file
 module _ (file : List ℕ) (ok : judge (file_checks file) ≡ Accepted) (k : ℕ) where
-  pub unequal-by : (h first : ℕ) → h < cells_of file → keyed (board_of file) ControlCell k h ≡ true → first ≡ drivers_at (board_of file) h → any_other (board_of file) k first ≡ unequal (board_of file) k
+  pub unequal-by :
+      (h first : ℕ) → h < cells_of file → keyed (board_of file) ControlCell k h ≡ true → first ≡ drivers_at (board_of file) h →
+      any_other (board_of file) k first ≡ unequal (board_of file) k
   unfolding board_of any_other
   unequal-by h first l key e = sym (unequal-other (board_of file) (known file ok) k h first l key e)
 

@@ -84,7 +84,8 @@ pub all-nets : (file : List ℕ) (k : ℕ) (s : ℕ → Bool) → ((m : ℕ) →
 unfolding drives board_of
 all-nets file k s h = fun_ext h
 
-pub all-controls : (file : List ℕ) (floor n : ℕ) (f s : ℕ → Bool) → ((j : ℕ) → s j ≡ (f j || any (cells_of file) (brings_above (board_of file) floor n j))) → s ≡ with_controls (board_of file) floor n f
+pub all-controls :
+    (file : List ℕ) (floor n : ℕ) (f s : ℕ → Bool) → ((j : ℕ) → s j ≡ (f j || any (cells_of file) (brings_above (board_of file) floor n j))) → s ≡ with_controls (board_of file) floor n f
 unfolding with_controls drives board_of
 all-controls file floor n f s h =
     fun_ext (λ j. h j ∙ or_comm (f j) _ ∙ ap (λ (x : Bool). x || f j) (any-both (cells_of file) (brings (board_of file) j n) (ltb floor j)))
@@ -126,7 +127,8 @@ all-sharers file ok k s h =
     shared j = same_test _ _ (shares-meets (board_of file) (known-net file ok) k j) (meets-shares (board_of file) (known-net file ok) k j)
 
 -- the net of a driver on a chain fits a set of nets
-pub chained-net : (file : List ℕ) → judge (file_checks file) ≡ Accepted → (k c : ℕ) → c < cells_of file → keyed (board_of file) ControlCell k c ≡ true → net_of ((board_of file).cell c) < 64 * net_words
+pub chained-net :
+    (file : List ℕ) → judge (file_checks file) ≡ Accepted → (k c : ℕ) → c < cells_of file → keyed (board_of file) ControlCell k c ≡ true → net_of ((board_of file).cell c) < 64 * net_words
 unfolding board_of
 chained-net file ok k c l h =
     let b = known-net file ok c l (keyed-controlled (board_of file) k c h) in

@@ -82,14 +82,18 @@ unfolding start_of steps_of bases_for
 start-end p = refl
 
 -- in part i stands the base vector, then those inserted after it
-step_in : (p : Plan) (i left : ℕ) → i < size p → left ≤ inserted_after (bases_for p) i → get_or (steps_of (bases_for p)) (start_of p i + left) (Base 0) ≡ get_or (Base i ∷ between (bases_for p) i) left (Base 0)
+step_in :
+    (p : Plan) (i left : ℕ) → i < size p → left ≤ inserted_after (bases_for p) i →
+    get_or (steps_of (bases_for p)) (start_of p i + left) (Base 0) ≡ get_or (Base i ∷ between (bases_for p) i) left (Base 0)
 unfolding start_of steps_of bases_for
 step_in p i left l m = weave_at Base (between (bases_for p)) (size p) (Base 0) l left (rw (part_length p i) m)
 
 pub step-base : (p : Plan) (t i left : ℕ) → i < size p → start_of p i + left ≡ t → left ≡ 0 → Base i ≡ get_or (steps_of (bases_for p)) t (Base 0)
 step-base p t i left l e z = sym (rw (← e, z) (step_in p i 0 l (omega arith)))
 
-pub step-inserted : (p : Plan) (t i left : ℕ) → i < size p → start_of p i + left ≡ t → (left ≡ 0 → ⊥) → left ≤ inserted_after (bases_for p) i → Inserted i left ≡ get_or (steps_of (bases_for p)) t (Base 0)
+pub step-inserted :
+    (p : Plan) (t i left : ℕ) → i < size p → start_of p i + left ≡ t → (left ≡ 0 → ⊥) → left ≤ inserted_after (bases_for p) i →
+    Inserted i left ≡ get_or (steps_of (bases_for p)) t (Base 0)
 unfolding between
 step-inserted p t i zero l e z m = absurd (z refl)
 step-inserted p t i (suc k) l e z m =

@@ -9,6 +9,8 @@ use lib.Pow.{pow_mono}
 use Rattle.base.proofs.BoolLaws.{order}
 use Rattle.rules.specs.Vectors.{code_width}
 use Rattle.rules.proofs.Codes.{width-least}
+-- at most k where 2 ^ k holds every code
+pub use Rattle.rules.proofs.Codes.{width-bounded}
 
 -- the digits of N + 1 are as many as the width of N codes
 pub digits-width : (k nets : ℕ) → nets + 1 < 2 ^ k → k - count_leading_zeros k (nets + 1) ≡ code_width nets
@@ -34,7 +36,3 @@ width_positive nets = ⊎_elim none (λ (q : 0 < code_width nets). q) (eq-zero-o
   where
     none : code_width nets ≡ 0 → 1 ≤ code_width nets
     none e = absurd (let w = (width-least nets).0 in let z = ap (λ (k : ℕ). 2 ^ k) e in omega arith)
-
-pub width-bounded : (k nets : ℕ) → nets + 2 ≤ 2 ^ k → code_width nets ≤ k
-width-bounded k nets h =
-    ⊎_elim (λ (l : k < code_width nets). absurd (omega (arith, (width-least nets).1 k l))) (λ (l : code_width nets ≤ k). l) (order k (code_width nets))

@@ -22,7 +22,8 @@ use Rattle.rules.specs.declared.Cell.TheVariants.{Internal, Control, ThreeState}
 use Rattle.rules.specs.Drivers.{driver_in, driver_at, is_driver, control_in, controlled, control_for, open_drain, is_control, always_on, is_input}
 use Rattle.rules.specs.Drivers.{on_net, output_of, driver_of, drives, drivers, controls, degree, meets, inside, crosses, groups_of}
 use Rattle.rules.specs.Groups.{marked, turn, pass, first_pass, second_pass, selected, earlier, group, on_in}
-use Rattle.rules.specs.Vectors.{code_width, code_bit, width_of, pattern_of, bases_of, differs, changes, inserted_after, between, steps_of, vector_of, plan_of, total_of, vector_at, cell_bit, vector_row}
+use Rattle.rules.specs.Vectors.{code_width, code_bit, width_of, pattern_of, bases_of, differs, changes, inserted_after, between, steps_of}
+use Rattle.rules.specs.Vectors.{vector_of, plan_of, total_of, vector_at, cell_bit, vector_row}
 use Rattle.rules.specs.Lines.{switched_on, acts_as, acts, level}
 use Rattle.rules.specs.Marks.{read_at, own_at, differs_at, input_of, unseen, failed, read_twice, rows_of, first_given, mark_of, byte_of, marks_of}
 use Rattle.rules.specs.Refusals.{judge, number_of, place_of, second_of, wrong_length, within, outside, blocks_for, block_wrong}

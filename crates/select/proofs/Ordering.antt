@@ -116,7 +116,9 @@ module _ (b : Board) (wanted allowed : ℕ → Bool) (t : List ℕ) where
   over-end zero on h = refl
   over-end (suc i) on h = absurd (omega arith)
 
-  pub over-step : (i c : ℕ) (on : List ℕ) → 0 < i → c ≡ spare_in t (i - 1) → pass_over b wanted allowed (backwards t i) on ≡ pass_over b wanted allowed (backwards t (i - 1)) (turn b wanted allowed c on)
+  pub over-step :
+      (i c : ℕ) (on : List ℕ) → 0 < i → c ≡ spare_in t (i - 1) →
+      pass_over b wanted allowed (backwards t i) on ≡ pass_over b wanted allowed (backwards t (i - 1)) (turn b wanted allowed c on)
   unfolding pass_over backwards
   over-step zero c on h e = absurd (omega arith)
   over-step (suc i) c on h e = rw (e, sub-one)

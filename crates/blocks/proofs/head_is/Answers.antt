@@ -12,7 +12,10 @@ begins head number kind = eqb head.number number && eqb head.kind kind
 
 two : (c : Joined-head-number) → c.if-head-number.value ≡ begins c.args.head c.args.number c.args.kind
 two c =
-    elim c.if-head-number.branch [ then-head-number w ↦ and-next refl (eq-eqb _ _ w.if-head-number.true) w.value-is | else-head-number w ↦ and-stop _ refl (ne_eqb _ _ w.if-head-number.false) w.value-is ]
+    elim c.if-head-number.branch [
+      | then-head-number w ↦ and-next refl (eq-eqb _ _ w.if-head-number.true) w.value-is
+      | else-head-number w ↦ and-stop _ refl (ne_eqb _ _ w.if-head-number.false) w.value-is
+    ]
 
 pub returns-then-head-kind : goal.returns-then-head-kind
 unfolding head_is

@@ -21,7 +21,10 @@ one-chain file heads h = rw (headed-first file heads h) (regroup (head_right fil
 
 two : (d : Joined-heads-gt0) → d.if-heads-gt0.value ≡ (ltb 0 d.args.heads.right && signature_right d.args.file.now)
 two d =
-    elim d.if-heads-gt0.branch [ then-heads-gt0 w ↦ and-next refl (lt-ltb _ _ w.if-heads-gt0.true) (w.value-is ∙ w.signature_right.ensures) | else-heads-gt0 w ↦ and-stop _ refl (le-ltb _ _ w.if-heads-gt0.false) w.value-is ]
+    elim d.if-heads-gt0.branch [
+      | then-heads-gt0 w ↦ and-next refl (lt-ltb _ _ w.if-heads-gt0.true) (w.value-is ∙ w.signature_right.ensures)
+      | else-heads-gt0 w ↦ and-stop _ refl (le-ltb _ _ w.if-heads-gt0.false) w.value-is
+    ]
 
 pub returns-then-signature_right : goal.returns-then-signature_right
 returns-then-signature_right c =

@@ -15,11 +15,17 @@ whole sizes = first sizes && within most_limit sizes.limit
 
 two : (c : Joined-within-2) → c.if-within.value ≡ first c.read_sizes-sizes.result
 two c =
-    elim c.if-within.branch [ then-within w ↦ and-next c.within.ensures w.if-within.true (w.value-is ∙ w.within-then-within.ensures) | else-within w ↦ and-stop _ c.within.ensures w.if-within.false w.value-is ]
+    elim c.if-within.branch [
+      | then-within w ↦ and-next c.within.ensures w.if-within.true (w.value-is ∙ w.within-then-within.ensures)
+      | else-within w ↦ and-stop _ c.within.ensures w.if-within.false w.value-is
+    ]
 
 three : (c : Joined-within-2) → c.if-within-2.result ≡ whole c.read_sizes-sizes.result
 three c =
-    elim c.if-within-2.branch [ then-within-2 w ↦ and-next (two c) w.if-within-2.true (w.result-is ∙ w.within-then-within-2.ensures) | else-within-2 w ↦ and-stop _ (two c) w.if-within-2.false w.result-is ]
+    elim c.if-within-2.branch [
+      | then-within-2 w ↦ and-next (two c) w.if-within-2.true (w.result-is ∙ w.within-then-within-2.ensures)
+      | else-within-2 w ↦ and-stop _ (two c) w.if-within-2.false w.result-is
+    ]
 
 pub returns : goal.returns
 unfolding outside

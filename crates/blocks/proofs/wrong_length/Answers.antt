@@ -8,7 +8,10 @@ use Rattle.blocks.proofs.wrong_length.Goals.{Joined-n-eq0, else-n-eq0, then-n-eq
 
 two : (c : Joined-n-eq0) → c.if-n-eq0.value ≡ (eqb (length c.args.file.now) 0 || not (eqb (length c.args.file.now % block_size) 0))
 two c =
-    elim c.if-n-eq0.branch [ then-n-eq0 w ↦ or-stop _ refl (eq-eqb _ _ w.if-n-eq0.true) w.value-is | else-n-eq0 w ↦ or-next refl (ne_eqb _ _ w.if-n-eq0.false) w.value-is ]
+    elim c.if-n-eq0.branch [
+      | then-n-eq0 w ↦ or-stop _ refl (eq-eqb _ _ w.if-n-eq0.true) w.value-is
+      | else-n-eq0 w ↦ or-next refl (ne_eqb _ _ w.if-n-eq0.false) w.value-is
+    ]
 
 pub returns-then-n-ne0 : goal.returns-then-n-ne0
 unfolding wrong_length

@@ -59,7 +59,8 @@ add_again-requires c = let f = control-fits (goal.at.add_again-requires c).In-Of
 
 pub returns-then-add_again : goal.returns-then-add_again
 returns-then-add_again c =
-    meeting-again _ _ c.requires.chains _ _ _ _ (walk (goal.at.returns-then-add_again c).At-loop-at) c.loop-at-test.true c.cell_named-c.ensures _ _ (told (goal.at.returns-then-add_again c).In-Of) (sym c.add_again.ensures.value ∙ c.if-add_again.true)
+    meeting-again _ _ c.requires.chains _ _ _ _ (walk (goal.at.returns-then-add_again c).At-loop-at) c.loop-at-test.true c.cell_named-c.ensures _ _
+    (told (goal.at.returns-then-add_again c).In-Of) (sym c.add_again.ensures.value ∙ c.if-add_again.true)
 
 pub net_link-at-requires : goal.net_link-at-requires
 net_link-at-requires c =

@@ -28,7 +28,9 @@ walk : (l : At-loop-at) → Walking (keyed (board_of (l.args.file.now)) ControlC
 walk l =
     l.loop-at.invariant (l.args.k.0) (cell-fits _ l.requires.chains.checked _ l.requires.k_bound) l.head-at.ensures
 
-walk-After-cell_named-c : (l : After-cell_named-c) → Walking (keyed (board_of (l.args.file.now)) ControlCell (l.args.k.0)) (other (board_of (l.args.file.now)) (l.args.k.0) l.args.first) (cells_of (l.args.file.now)) l.loop-at.at
+walk-After-cell_named-c :
+    (l : After-cell_named-c) →
+    Walking (keyed (board_of (l.args.file.now)) ControlCell (l.args.k.0)) (other (board_of (l.args.file.now)) (l.args.k.0) l.args.first) (cells_of (l.args.file.now)) l.loop-at.at
 walk-After-cell_named-c l =
     l.loop-at.invariant (l.args.k.0) (cell-fits _ l.requires.chains.checked _ l.requires.k_bound) l.head-at.ensures
 

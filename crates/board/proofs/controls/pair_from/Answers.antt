@@ -38,14 +38,16 @@ compared-After-next-j-in-loop-j c =
 
 pub returns-then-sets_cross : goal.returns-then-sets_cross
 returns-then-sets_cross c =
-    search-found _ (c.requires.filled.by-control.checked) _ _ c.loop-j.invariant (here (goal.at.returns-then-sets_cross c).In-loop-j) (sym (compared (goal.at.returns-then-sets_cross c).After-sets_cross) ∙ c.if-sets_cross.true)
+    search-found _ (c.requires.filled.by-control.checked) _ _ c.loop-j.invariant (here (goal.at.returns-then-sets_cross c).In-loop-j)
+    (sym (compared (goal.at.returns-then-sets_cross c).After-sets_cross) ∙ c.if-sets_cross.true)
 
 again : (c : After-next-j-in-loop-j)
     → (c.loop-j.j < c.next-j-in-loop-j.result) × Uncrossed (board_of (c.args.file.now)) (c.args.i.0) c.next-j-in-loop-j.result
 again c =
     let f = fit-After-next-j-in-loop-j c in
     let h = here-After-next-j-in-loop-j c in
-    search-on _ (c.requires.filled.by-control.checked) _ _ _ c.partners-met.ensures _ c.loop-j.invariant (omega arith) (sym (compared-After-next-j-in-loop-j c) ∙ c.if-sets_cross.false) c.next-j-in-loop-j.ensures
+    search-on _ (c.requires.filled.by-control.checked) _ _ _ c.partners-met.ensures _ c.loop-j.invariant (omega arith)
+    (sym (compared-After-next-j-in-loop-j c) ∙ c.if-sets_cross.false) c.next-j-in-loop-j.ensures
 
 pub next-j-requires-in-loop-j : goal.next-j-requires-in-loop-j
 next-j-requires-in-loop-j c =
@@ -85,7 +87,9 @@ pub next-j-requires : goal.next-j-requires
 next-j-requires c = let f = fit (goal.at.next-j-requires c).Start in let l = own (goal.at.next-j-requires c).Start in omega arith
 
 pub loop-j-init : goal.loop-j-init
-loop-j-init c = search-from _ (c.requires.filled.by-control.checked) _ _ _ c.partners-met.ensures (let f = fit (goal.at.loop-j-init c).Start in let l = own (goal.at.loop-j-init c).Start in omega arith) c.next-j.ensures
+loop-j-init c =
+    search-from _ (c.requires.filled.by-control.checked) _ _ _ c.partners-met.ensures
+    (let f = fit (goal.at.loop-j-init c).Start in let l = own (goal.at.loop-j-init c).Start in omega arith) c.next-j.ensures
 
 pub overflow_cast-higher : goal.overflow_cast-higher
 overflow_cast-higher c = let f = fit (goal.at.overflow_cast-higher c).Start in let h = here c in omega arith

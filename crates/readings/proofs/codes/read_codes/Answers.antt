@@ -30,7 +30,10 @@ add_row-requires c =
     let l = inv.0 in
     let n = c.requires.captured.narrow in
     let narrow : c.loop-j.j ≤ most_width = omega arith in
-    record { scanned = row-scanned _ _ _ _ c.requires.captured _ (inside (goal.at.add_row-requires c).In-loop-j); entries = mapped-bounded most_half 0 c.requires.entries (λ x e z. code-bounded _ _ _ _ x e narrow z) inv.2 }
+    record {
+      scanned = row-scanned _ _ _ _ c.requires.captured _ (inside (goal.at.add_row-requires c).In-loop-j);
+      entries = mapped-bounded most_half 0 c.requires.entries (λ x e z. code-bounded _ _ _ _ x e narrow z) inv.2;
+    }
 
 pub extra_after-requires : goal.extra_after-requires
 extra_after-requires c =

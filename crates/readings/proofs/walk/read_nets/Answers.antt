@@ -40,7 +40,10 @@ unfolding row_bytes ceil
 clear-requires c =
     let f = c.requires.captured.cells-bounded in
     let e = c.check_all.ensures.long in
-    record { scanned = omega (arith, length-replicate {A = ℕ} most_bytes 255); cells_in_bounds = omega (arith, long (goal.at.clear-requires c).After-own_codes, c.read_codes.ensures.long, c.own_codes.ensures.long) }
+    record {
+      scanned = omega (arith, length-replicate {A = ℕ} most_bytes 255);
+      cells_in_bounds = omega (arith, long (goal.at.clear-requires c).After-own_codes, c.read_codes.ensures.long, c.own_codes.ensures.long);
+    }
 
 pub returns : goal.returns
 returns c =

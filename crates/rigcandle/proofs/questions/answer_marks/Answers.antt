@@ -56,7 +56,8 @@ room-is c =
 
 pub overflow_mul-total : goal.overflow_mul-total
 overflow_mul-total c =
-    let m = place-bounded _ _ _ _ (vectors-bounded _ _ _ c.requires.file_value c.requires.plan_of c.total.ensures) (small (goal.at.overflow_mul-total c).After-read_sizes-sizes) c.row_bytes.ensures refl in
+    let m = place-bounded _ _ _ _ (vectors-bounded _ _ _ c.requires.file_value c.requires.plan_of c.total.ensures)
+    (small (goal.at.overflow_mul-total c).After-read_sizes-sizes) c.row_bytes.ensures refl in
     omega arith
 
 pub returns-in_default : goal.returns-in_default
@@ -77,13 +78,17 @@ pub read_nets-requires : goal.read_nets-requires
 read_nets-requires c =
     let right = whole-capture _ _ (once-accepted _ _ (sym c.once-whole.ensures ∙ c.in-Accepted.is)) in
     let long = right ∙ ap₂ ◌*◌ c.total.ensures c.row_bytes.ensures in
-    record { captured = captured _ _ _ c.requires.plan_of c.read_sizes-sizes.ensures.cells c.requires.file_value long; entries = no-entries _ (small (goal.at.read_nets-requires c).After-read_sizes-sizes) }
+    record {
+      captured = captured _ _ _ c.requires.plan_of c.read_sizes-sizes.ensures.cells c.requires.file_value long;
+      entries = no-entries _ (small (goal.at.read_nets-requires c).After-read_sizes-sizes);
+    }
 
 pub judge_readings-found-requires : goal.judge_readings-found-requires
 judge_readings-found-requires c =
     let sizes = c.read_sizes-sizes.ensures in
     let room = ltb-false _ _ (once-accepted _ _ (sym c.once-room.ensures ∙ c.in-Accepted-room.is)) in
-    let made = readings-of _ _ _ c.requires.plan_of sizes.cells (accepted (goal.at.judge_readings-found-requires c).After-read_sizes-sizes) (no-entries _ (small (goal.at.judge_readings-found-requires c).After-read_sizes-sizes)) c.read_nets.ensures in
+    let made = readings-of _ _ _ c.requires.plan_of sizes.cells (accepted (goal.at.judge_readings-found-requires c).After-read_sizes-sizes)
+    (no-entries _ (small (goal.at.judge_readings-found-requires c).After-read_sizes-sizes)) c.read_nets.ensures in
     record { readings = made; sized = record { cells_are = sizes.cells; nets-are = sizes.nets }; nets_in_bounds = room }
 
 pub returns : goal.returns

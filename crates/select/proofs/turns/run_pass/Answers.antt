@@ -37,7 +37,11 @@ stop_at-driver-requires c = record { ready = c.requires.order.ready; c_bound = h
 
 pub turn-nets-requires : goal.turn-nets-requires
 turn-nets-requires c =
-    record { ready = c.requires.order.ready; on_board = λ k n e. (_, here (goal.at.turn-nets-requires c).After-spare, stopped _ _ _ k n (sym c.stop_at-driver.ensures ∙ e)); on_len = c.loop-i.invariant.1 }
+    record {
+      ready = c.requires.order.ready;
+      on_board = λ k n e. (_, here (goal.at.turn-nets-requires c).After-spare, stopped _ _ _ k n (sym c.stop_at-driver.ensures ∙ e));
+      on_len = c.loop-i.invariant.1;
+    }
 
 pub loop-i-preserved : goal.loop-i-preserved
 loop-i-preserved c =

@@ -19,7 +19,8 @@ abbrev pub invariant-loop-i : goal.invariant-loop-i
 invariant-loop-i at =
     (at.i ≤ at.rule.found) × (length at.on ≡ cell_words)
     × ((l : List ℕ) → Holds (board_of at.file) l (turned_as at.initial.on at.initial.nets)
-    → (now : List ℕ) × Holds (board_of at.file) now (turned_as at.on at.nets) × (over at.file at.table at.rule (member at.earlier) at.i now ≡ over at.file at.table at.rule (member at.earlier) at.rule.found l))
+    → (now : List ℕ) × Holds (board_of at.file) now (turned_as at.on at.nets)
+    × (over at.file at.table at.rule (member at.earlier) at.i now ≡ over at.file at.table at.rule (member at.earlier) at.rule.found l))
 
 abbrev pub decreases-loop-i : goal.decreases-loop-i
 decreases-loop-i l = l.i

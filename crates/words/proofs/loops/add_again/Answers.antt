@@ -41,4 +41,8 @@ returns c =
     let i = c.args.i in
     let ws = c.args.words.now in
     let word = get_or ws (i / 64) 0 in
-    let one = one_shifted 64 (i % 64) (omega arith) in record { value = ap (λ (x : ℕ). eqb (bit_or word x) word) one ∙ has-digit word (i % 64) (c.slice_known-1.given (i / 64)).fits (omega arith); words_after = ap (λ (x : ℕ). member (set ws (i / 64) (bit_or word x))) one ∙ member-plus ws i c.requires }
+    let one = one_shifted 64 (i % 64) (omega arith) in
+    record {
+      value = ap (λ (x : ℕ). eqb (bit_or word x) word) one ∙ has-digit word (i % 64) (c.slice_known-1.given (i / 64)).fits (omega arith);
+      words_after = ap (λ (x : ℕ). member (set ws (i / 64) (bit_or word x))) one ∙ member-plus ws i c.requires;
+    }
