@@ -14,9 +14,8 @@ use Rattle.rules.specs.File.{board_of}
 use Rattle.rules.specs.Drivers.{degree, groups_of}
 use Rattle.rules.specs.Vectors.{width_of, total_of, vector_at}
 use Rattle.rules.specs.Marks.{mark_of, byte_of, marks_of, bytes_that}
-use Rattle.rules.specs.Refusals.{judge, most_nets, most_drivers, most_vectors, most_width, file_checks, early_checks, board_checks, count_checks}
+use Rattle.rules.specs.Refusals.{Accepted, judge, most_nets, most_drivers, most_vectors, most_width, file_checks, early_checks, board_checks, count_checks}
 use Rattle.rules.specs.Refusals.{groups_checks, vector_checks, marks_checks}
-use Rattle.rules.specs.declared.Verdict.TheVariants.{Accepted}
 use Rattle.rules.proofs.Verdicts.{append-pass, all_pass, accepted}
 use Rattle.rules.proofs.Shape.{laid, shaped}
 use Rattle.rules.proofs.Codes.{width-bounded}

@@ -25,12 +25,10 @@ use Rattle.rules.specs.Drivers.{control_for, is_control, open_drain, on_net, dri
 use Rattle.rules.specs.Groups.{on_in, group_row, group_rows}
 use Rattle.rules.specs.Vectors.{Vector, total_of, vector_at, cell_bit, vector_row}
 use Rattle.rules.specs.Lines.{loaded, switched_on, acts_as, acts, has_resistor, level}
-use Rattle.rules.specs.Refusals.{judge, board_checks, count_checks, groups_checks, vector_checks}
+use Rattle.rules.specs.Refusals.{Accepted, Verdict, judge, board_checks, count_checks, groups_checks, vector_checks}
 use Rattle.rules.specs.Answers.{unless, over, groups_answer, vector_answer}
 use Rattle.rules.specs.declared.Cell.{Cell}
 use Rattle.rules.specs.declared.Cell.TheVariants.{Internal, Input, Control, ThreeState, TwoState, OpenDrain}
-use Rattle.rules.specs.declared.Verdict.{Verdict}
-use Rattle.rules.specs.declared.Verdict.TheVariants.{Accepted}
 use Rattle.rules.proofs.Verdicts.{AllPass, all_pass, accepted, append-pass}
 use Rattle.rules.proofs.RowLaws.{row-length, row-bit}
 use Rattle.rules.proofs.DriverLaws.{control-kind, driver-kind, drain-control, three-driver, three-control}

@@ -5,8 +5,7 @@ use mathlib.Core.Path.{◌≡◌}
 use mathlib.Core.Bool.{Bool, true, false}
 use mathlib.Core.List.{List, [], ◌∷◌}
 use native.Mathlib.Omega.{arith}
-use Rattle.rules.specs.Refusals.{Check, judge, refuse, each, once}
-use Rattle.rules.specs.declared.Verdict.TheVariants.{Accepted}
+use Rattle.rules.specs.Refusals.{Accepted, Check, judge, refuse, each, once}
 use Rattle.rules.proofs.Verdicts.{judge-passes, judge-applies, all_pass}
 use Rattle.base.proofs.TestLaws.{Searched, search-start, search-next}
 

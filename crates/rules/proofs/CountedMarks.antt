@@ -8,6 +8,7 @@ use mathlib.Core.List.{List, [], ◌∷◌, ◌++◌}
 use native.Mathlib.Omega.{arith}
 use lib.Dec.{eqb}
 use lib.ListN.{drop, length, get_or-append}
+use Rattle.rules.specs.Refusals.{Accepted}
 use Rattle.base.specs.Tests.{digit}
 use Rattle.base.specs.Counting.{count}
 use Rattle.base.specs.Lists.{table}
@@ -18,7 +19,6 @@ use Rattle.rules.specs.Marks.{mark_of, byte_of, is_pass, is_fail, is_unsure, mar
 use Rattle.rules.specs.Answers.{over, MarksAnswer, marks_answer}
 use Rattle.rules.specs.declared.Mark.{Mark}
 use Rattle.rules.specs.declared.Mark.TheVariants.{Pass, Fail, NotSeen, ReadTwice}
-use Rattle.rules.specs.declared.Verdict.TheVariants.{Accepted}
 
 -- how many of the first `nets` bytes are this one
 abbrev pub bytes_of : ℕ → List ℕ → ℕ → ℕ

@@ -10,15 +10,14 @@ use borrow.Author.Tests.{eqb-true, eq-eqb, ne_eqb, ltb-true}
 use lib.Dec.{eqb, ltb}
 use Rattle.base.proofs.BoolLaws.{left, right, or_left, or_right, or_cases}
 use Rattle.rules.specs.File.{Board, board_of, none, kind_of, control_of, net_of, kind_at, control_at, net_at, cells_of, nets_of, of_kind2, broken_at}
-use Rattle.rules.specs.Drivers.{driver_in, driver_at, is_driver, control_in, controlled, control_for, open_drain, is_control, always_on, on_net, driver_of}
-use Rattle.rules.specs.Refusals.{judge, file_checks}
+use Rattle.rules.specs.Drivers.{Of, driver_in, driver_at, is_driver, control_in, controlled, control_for, open_drain, is_control, always_on, on_net, driver_of}
+use Rattle.rules.specs.Refusals.{Accepted, judge, file_checks}
 use Rattle.rules.specs.declared.Cell.{Cell}
 use Rattle.rules.specs.declared.Cell.TheVariants.{Internal, Input, Control, ThreeState, TwoState, OpenDrain}
 use Rattle.rules.specs.declared.Driver.{Driver}
-use Rattle.rules.specs.declared.Driver.TheVariants.{Of, Nothing}
+use Rattle.std.specs.Prelude.{Option, Some, None}
 use Rattle.rules.specs.declared.Position.{Position}
 use Rattle.rules.specs.declared.Net.{Net}
-use Rattle.rules.specs.declared.Verdict.TheVariants.{Accepted}
 use Rattle.rules.proofs.RecordLaws.{connects, SaysAt, record-says}
 use Rattle.rules.proofs.Shape.{whole-records}
 
@@ -50,15 +49,15 @@ driver-five c (ThreeState k n) e = absurd (omega arith)
 driver-five c (TwoState n) e = absurd (omega arith)
 driver-five c (OpenDrain n) e = refl
 
-nothing-driven : (d : Driver) → is_driver d ≡ false → d ≡ Nothing
+nothing-driven : (d : Option Driver) → is_driver d ≡ false → d ≡ None
 unfolding is_driver
-nothing-driven (Of k n) h = absurd (false≢true (sym h))
-nothing-driven Nothing h = refl
+nothing-driven (Some d) h = absurd (false≢true (sym h))
+nothing-driven None h = refl
 
-driver-other : (c : ℕ) (cell : Cell) → (kind_of cell ≡ 3 → ⊥) → (kind_of cell ≡ 5 → ⊥) → driver_in c cell ≡ Nothing
+driver-other : (c : ℕ) (cell : Cell) → (kind_of cell ≡ 3 → ⊥) → (kind_of cell ≡ 5 → ⊥) → driver_in c cell ≡ None
 driver-other c cell x y = nothing-driven _ (driver-kinds c cell ∙ rw (ne_eqb (kind_of cell) 3 x, ne_eqb (kind_of cell) 5 y))
 
-never : (k : Position) (n : Net) → Nothing ≡ Of k n → ⊥
+never : (k : Position) (n : Net) → None ≡ Of k n → ⊥
 never k n e = let z : ◌≡◌ {A = ℕ} 0 1 = cc in omega arith
 
 driver-net : (c : ℕ) (cell : Cell) (k : Position) (n : Net) → driver_in c cell ≡ Of k n → net_of cell ≡ n.0
@@ -66,9 +65,9 @@ unfolding driver_in net_of
 driver-net c Internal k n e = absurd (never k n e)
 driver-net c (Input m) k n e = absurd (never k n e)
 driver-net c (Control on) k n e = absurd (never k n e)
-driver-net c (ThreeState j m) k n e = let q : m ≡ n = cc in ap (λ (x : Net). x.0) q
+driver-net c (ThreeState j m) k n e = let q : ◌≡◌ {A = Driver} (record { control = j; net = m }) (record { control = k; net = n }) = cc in ap (λ (d : Driver). d.net.0) q
 driver-net c (TwoState m) k n e = absurd (never k n e)
-driver-net c (OpenDrain m) k n e = let q : m ≡ n = cc in ap (λ (x : Net). x.0) q
+driver-net c (OpenDrain m) k n e = let q : ◌≡◌ {A = Driver} (record { control = record { 0 = c }; net = m }) (record { control = k; net = n }) = cc in ap (λ (d : Driver). d.net.0) q
 
 -- what was found is the driver there
 pub driver-is : (found at driver : Driver) → found ≡ at → found ≡ driver → at ≡ driver
@@ -80,11 +79,11 @@ module _ (b : Board) (c : ℕ) where
   unfolding controlled control_for is_driver control_in driver_at
   is-driver k n e = (ap is_driver e, ap control_in e, driver-net c (b.cell c) k n e)
 
-  pub no-driver : driver_at b c ≡ Nothing → controlled b c ≡ false
+  pub no-driver : driver_at b c ≡ None → controlled b c ≡ false
   unfolding controlled is_driver
   no-driver e = ap is_driver e
 
-  pub no-control : driver_at b c ≡ Nothing → control_for b c ≡ none
+  pub no-control : driver_at b c ≡ None → control_for b c ≡ none
   unfolding control_for control_in
   no-control e = ap control_in e
 
@@ -93,7 +92,7 @@ module _ (b : Board) (c : ℕ) where
   unfolding driver_of on_net
   driver-on k n e m = let d = is-driver k n e in rw (d.0, d.2) (and-true (eqb n.0 m))
 
-  pub driver-off : driver_at b c ≡ Nothing → (m : ℕ) → driver_of b m c ≡ false
+  pub driver-off : driver_at b c ≡ None → (m : ℕ) → driver_of b m c ≡ false
   unfolding driver_of
   driver-off e m = rw (no-driver e) (and-false (on_net b m c))
 
@@ -212,7 +211,7 @@ module _ (file : List ℕ) (ok : judge (file_checks file) ≡ Accepted) (c : ℕ
   unfolding driver_at
   read-five e = sym (driver-five c _ (found.kind-is ∙ e) ∙ ap (λ (n : ℕ). Of (record { 0 = c }) (record { 0 = n })) found.net-is)
 
-  pub read-other : (kind_at file c ≡ 3 → ⊥) → (kind_at file c ≡ 5 → ⊥) → Nothing ≡ driver_at (board_of file) c
+  pub read-other : (kind_at file c ≡ 3 → ⊥) → (kind_at file c ≡ 5 → ⊥) → None ≡ driver_at (board_of file) c
   unfolding driver_at
   read-other x y = sym (driver-other c _ (λ e. x (sym found.kind-is ∙ e)) (λ e. y (sym found.kind-is ∙ e)))
 

@@ -16,7 +16,6 @@ use Rattle.rules.specs.File.{byte_at, number_at, added, summed, sums_from, sums_
 use Rattle.rules.specs.File.{cells_of, nets_of, limit_of, records_in, cell_block_right, record_at, kind_at, on_at, control_at, net_at, none}
 use Rattle.rules.specs.File.{of_kind2, table_of, record_of, broken_at, kind_of, on_value_of, control_of, net_of, Board, board_of}
 use Rattle.rules.specs.declared.Sums.{Sums}
-use Rattle.rules.specs.declared.Verdict.{Verdict}
 use Rattle.rules.specs.declared.Cell.{Cell}
 use Rattle.rules.specs.declared.Cell.TheVariants.{Internal, Control, ThreeState}
 use Rattle.rules.specs.Drivers.{driver_in, driver_at, is_driver, control_in, controlled, control_for, open_drain, is_control, always_on, is_input}
@@ -26,7 +25,7 @@ use Rattle.rules.specs.Vectors.{code_width, code_bit, width_of, pattern_of, base
 use Rattle.rules.specs.Vectors.{vector_of, plan_of, total_of, vector_at, cell_bit, vector_row}
 use Rattle.rules.specs.Lines.{switched_on, acts_as, acts, level}
 use Rattle.rules.specs.Marks.{read_at, own_at, differs_at, input_of, unseen, failed, read_twice, rows_of, first_given, mark_of, byte_of, marks_of}
-use Rattle.rules.specs.Refusals.{judge, number_of, place_of, second_of, wrong_length, within, outside, blocks_for, block_wrong}
+use Rattle.rules.specs.Refusals.{Verdict, judge, number_of, place_of, second_of, wrong_length, within, outside, blocks_for, block_wrong}
 use Rattle.rules.specs.Refusals.{undriven, clash, clashing, crowded, crossed_by, crossed, crosser, unequal}
 use Rattle.rules.specs.Refusals.{shape_checks, file_checks, net_checks, control_checks, early_checks, board_checks}
 

@@ -18,8 +18,7 @@ use Rattle.base.proofs.ListLaws.{has-append}
 use Rattle.rules.specs.File.{Board, board_of}
 use Rattle.rules.specs.Drivers.{controlled, control_for, always_on, on_net, output_of, driver_of, drives, drivers, controls, degree, meets, groups_of}
 use Rattle.rules.specs.Groups.{selected, earlier, group, on_in}
-use Rattle.rules.specs.Refusals.{judge, board_checks}
-use Rattle.rules.specs.declared.Verdict.TheVariants.{Accepted}
+use Rattle.rules.specs.Refusals.{Accepted, judge, board_checks}
 use Rattle.rules.proofs.NetSetLaws.{Affects, meets_at, driver-output, drives-driver, driver-drives, always-alone, driver-alone}
 use Rattle.rules.proofs.Requirement.{ControlCell}
 use Rattle.rules.proofs.Degree.{degree-drivers}

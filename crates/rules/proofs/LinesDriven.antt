@@ -18,10 +18,9 @@ use Rattle.rules.specs.Drivers.{controlled, control_for, open_drain, always_on, 
 use Rattle.rules.specs.Groups.{on_in}
 use Rattle.rules.specs.Vectors.{Vector, total_of, vector_at, cell_bit, vector_row}
 use Rattle.rules.specs.Lines.{loaded, switched_on, acts_as, acts, has_resistor, level}
-use Rattle.rules.specs.Refusals.{judge, board_checks}
+use Rattle.rules.specs.Refusals.{Accepted, judge, board_checks}
 use Rattle.rules.specs.declared.Cell.{Cell}
 use Rattle.rules.specs.declared.Cell.TheVariants.{Internal, Input, Control, ThreeState, TwoState, OpenDrain}
-use Rattle.rules.specs.declared.Verdict.TheVariants.{Accepted}
 use Rattle.rules.proofs.DriverLaws.{driver-kind, four, five, three-control, drain-control}
 use Rattle.rules.proofs.Requirement.{ControlCell}
 use Rattle.rules.proofs.Selection.{Sound, sound}

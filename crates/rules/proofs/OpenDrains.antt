@@ -13,8 +13,7 @@ use Rattle.base.proofs.BoolLaws.{left, right, both, fails-not, clashes, fails-if
 use Rattle.base.proofs.TestLaws.{any-member}
 use Rattle.rules.specs.File.{Board, board_of, kind_of, net_of}
 use Rattle.rules.specs.Drivers.{controlled, control_for, open_drain, is_control, on_net, driver_of, drives, drivers, inside, crosses}
-use Rattle.rules.specs.Refusals.{judge, unequal, early_checks}
-use Rattle.rules.specs.declared.Verdict.TheVariants.{Accepted}
+use Rattle.rules.specs.Refusals.{Accepted, judge, unequal, early_checks}
 use Rattle.rules.proofs.DriverLaws.{driver-kind, five, drain-control}
 use Rattle.rules.proofs.Acceptance.{Early, early}
 use Rattle.rules.proofs.NetSetLaws.{Affects, meets-net, not-included, drives-driver, driver-drives}

@@ -9,17 +9,16 @@ use mathlib.Core.List.{List, [], ◌∷◌, ◌++◌}
 use native.Mathlib.Omega.{arith}
 use borrow.Author.Tests.{ltb-true, eqb-false}
 use lib.Dec.{eqb, ltb}
+use Rattle.std.specs.Prelude.{Ok, Err}
 use Rattle.base.proofs.BoolLaws.{left, right, fails-if, fails-not, clashes, order}
 use Rattle.base.proofs.TestLaws.{any-member, Lowest, least-lowest, least_at}
 use Rattle.rules.specs.File.{Board, board_of, cells_of, nets_of, blocks_in}
 use Rattle.rules.specs.Drivers.{crosses}
-use Rattle.rules.specs.Refusals.{Check, judge, paired, numbered, number_of, place_of, second_of, each, once, crossing, crossed_by, crossed, crosser}
+use Rattle.rules.specs.Refusals.{Accepted, Refused, Verdict, Check, judge, paired, numbered, number_of, place_of, second_of, each, once, crossing, crossed_by, crossed, crosser}
 use Rattle.rules.specs.Refusals.{shape_checks, file_checks, net_checks, control_checks, early_checks, board_checks}
 use Rattle.rules.specs.Refusals.{count_checks, groups_checks, vector_checks, marks_checks}
 use Rattle.rules.specs.Answers.{Field, pack, packed, groups_answer, groups_outcome, count_answer, count_outcome, vector_answer, vector_outcome, marks_answer, marks_outcome}
 use Rattle.rules.specs.declared.Refusal.{Refusal}
-use Rattle.rules.specs.declared.Verdict.{Verdict}
-use Rattle.rules.specs.declared.Verdict.TheVariants.{Accepted, Refused}
 use Rattle.rules.proofs.Verdicts.{Passes, Applies, AllPass, accepted, append-pass, First, here, later, given-first, judge-applies, judge-append, judge-refused}
 use Rattle.rules.proofs.Shape.{whole-blocks, laid, shaped}
 use Rattle.rules.proofs.CrossingLaws.{crossed-by, by-crossing, crossed-at, crossed-none}
@@ -246,8 +245,8 @@ pub record Named (b : Board) (bits : ℕ) : Type 0 where
 
 named : (b : Board) (v : Verdict) (fields : List Field) → ((r : Refusal) → v ≡ Refused r → Says b r) → Named b (packed v fields)
 unfolding packed pack number_of place_of second_of
-named b Accepted fields says = record { ten = λ t. absurd (omega arith); other = λ l t. absurd (omega arith) }
-named b (Refused r) fields says = record { ten = pair; other = none }
+named b (Ok _) fields says = record { ten = λ t. absurd (omega arith); other = λ l t. absurd (omega arith) }
+named b (Err r) fields says = record { ten = pair; other = none }
   where
     s : Says b r
     s = says r refl

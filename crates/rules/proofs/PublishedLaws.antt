@@ -18,8 +18,7 @@ use Rattle.rules.specs.File.{Board, board_of, net_of}
 use Rattle.rules.specs.Drivers.{controlled, control_for, is_control, on_net, driver_of, drives, controls, degree, meets}
 use Rattle.rules.specs.Groups.{marked, turn, pass, first_pass, second_pass, selected, earlier, group, on_in}
 use Rattle.rules.specs.Published.{Arrays, related, degree_of, initialized, activate, first_test, second_test, loop, rows_after, used_up_to, published}
-use Rattle.rules.specs.Refusals.{judge, board_checks}
-use Rattle.rules.specs.declared.Verdict.TheVariants.{Accepted}
+use Rattle.rules.specs.Refusals.{Accepted, judge, board_checks}
 use Rattle.rules.proofs.NetSetLaws.{Affects, meets_at, drives-driver, driver-own}
 use Rattle.rules.proofs.PassLaws.{marks, open_at, turn-keeps}
 use Rattle.rules.proofs.Selection.{Sound, sound, first-covers}

@@ -10,15 +10,14 @@ use native.Mathlib.Omega.{arith}
 use borrow.Author.Tests.{ne_eqb}
 use lib.Dec.{eqb}
 use lib.Pow.{pow_pos, shr-shr}
+use Rattle.std.specs.Prelude.{Ok, Err}
 use Rattle.rules.specs.File.{Board}
 use Rattle.rules.specs.Marks.{is_pass, is_fail, is_unsure}
-use Rattle.rules.specs.Refusals.{number_of, place_of, second_of}
+use Rattle.rules.specs.Refusals.{Accepted, Refused, Verdict, number_of, place_of, second_of}
 use Rattle.rules.specs.Answers.{unless, Field, pack, field, packed}
 use Rattle.rules.specs.Answers.{GroupsAnswer, groups_answer, groups_outcome, CountAnswer, count_answer, count_outcome}
 use Rattle.rules.specs.Answers.{VectorAnswer, vector_answer, vector_outcome, MarksAnswer, marks_answer, marks_outcome}
 use Rattle.rules.specs.declared.Refusal.{Refusal}
-use Rattle.rules.specs.declared.Verdict.{Verdict}
-use Rattle.rules.specs.declared.Verdict.TheVariants.{Accepted, Refused}
 use Rattle.rules.proofs.Outcomes.{pack-first, pack-rest}
 use Rattle.rules.proofs.Pairs.{Says, groups-refusal, count-refusal, vector-refusal, marks-refusal}
 use Rattle.rules.proofs.RefusalNumbers.{groups-number, count-number, vector-number, marks-number}
@@ -162,12 +161,12 @@ Saying b v = (r : Refusal) → v ≡ Refused r → Told b r
 -- each answer by its verdict: its numbers fit where it is accepted, and are 0 where it is refused
 groups-by : {b : Board} (v : Verdict) (g : ℕ) (after : List ℕ) → Saying b v → (v ≡ Accepted → g < 2 ^ 8) → GroupsRead (record { verdict = v; groups = unless v g 0; buffer = after })
 unfolding groups_outcome
-groups-by Accepted g after says fits =
+groups-by (Ok _) g after says fits =
     let fields = groups_fields (record { verdict = Accepted; groups = g; buffer = after }) in
     let fit : Fit fields = (fits refl, tt) in
     let r = (accepted-bits fields fit).1 in
     record { verdict = accepted-verdict fields fit; groups = accepted-number fields fit 8 8 r.0; above = r.1 }
-groups-by (Refused x) g after says fits =
+groups-by (Err x) g after says fits =
     let s = says x refl in
     record { verdict = refused-verdict x s _; groups = refused-number x s _ 8 8; above = (refused-bits x s _).1.1.1 }
 
@@ -175,7 +174,7 @@ count_by :
     {b : Board} (v : Verdict) (g w t : ℕ) → Saying b v → (v ≡ Accepted → (g < 2 ^ 8) × (w < 2 ^ 8) × (t < 2 ^ 16)) →
     CountRead (record { verdict = v; groups = unless v g 0; width = unless v w 0; total = unless v t 0 })
 unfolding count_outcome
-count_by Accepted g w t says fits =
+count_by (Ok _) g w t says fits =
     let fields = count_fields (record { verdict = Accepted; groups = g; width = w; total = t }) in
     let l = fits refl in
     let fit : Fit fields = (l.0, (l.1, (l.2, tt))) in
@@ -187,19 +186,19 @@ count_by Accepted g w t says fits =
       total = accepted-number fields fit 24 16 r.1.1.0;
       above = r.1.1.1;
     }
-count_by (Refused x) g w t says fits =
+count_by (Err x) g w t says fits =
     let s = says x refl in
     let none = refused-number x s _ in
     record { verdict = refused-verdict x s _; groups = none 8 8; width = none 16 8; total = none 24 16; above = (refused-bits x s _).1.1.1 }
 
 vector-by : {b : Board} (v : Verdict) (g : ℕ) (after : List ℕ) → Saying b v → (v ≡ Accepted → g < 2 ^ 8) → VectorRead (record { verdict = v; group = unless v g 0; buffer = after })
 unfolding vector_outcome
-vector-by Accepted g after says fits =
+vector-by (Ok _) g after says fits =
     let fields = vector_fields (record { verdict = Accepted; group = g; buffer = after }) in
     let fit : Fit fields = (fits refl, tt) in
     let r = (accepted-bits fields fit).1 in
     record { verdict = accepted-verdict fields fit; group = accepted-number fields fit 8 8 r.0; above = r.1 }
-vector-by (Refused x) g after says fits =
+vector-by (Err x) g after says fits =
     let s = says x refl in
     record { verdict = refused-verdict x s _; group = refused-number x s _ 8 8; above = (refused-bits x s _).1.1.1 }
 
@@ -207,7 +206,7 @@ marks-by :
     {b : Board} (v : Verdict) (p f u : ℕ) (after : List ℕ) → Saying b v → (v ≡ Accepted → (p < 2 ^ 16) × (f < 2 ^ 16) × (u < 2 ^ 16)) →
     MarksRead (record { verdict = v; pass = unless v p 0; fail = unless v f 0; unsure = unless v u 0; buffer = after })
 unfolding marks_outcome
-marks-by Accepted p f u after says fits =
+marks-by (Ok _) p f u after says fits =
     let fields = marks_fields (record { verdict = Accepted; pass = p; fail = f; unsure = u; buffer = after }) in
     let l = fits refl in
     let fit : Fit fields = (l.0, (l.1, (l.2, tt))) in
@@ -219,7 +218,7 @@ marks-by Accepted p f u after says fits =
       unsure = accepted-number fields fit 40 16 r.1.1.0;
       above = r.1.1.1;
     }
-marks-by (Refused x) p f u after says fits =
+marks-by (Err x) p f u after says fits =
     let s = says x refl in
     let none = refused-number x s _ in
     record { verdict = refused-verdict x s _; pass = none 8 16; fail = none 24 16; unsure = none 40 16; above = (refused-bits x s _).1.1.1 }

@@ -12,8 +12,7 @@ use Rattle.base.proofs.BoolLaws.{left, right, clashes, order}
 use Rattle.rules.specs.File.{by_kind, means, none, kind_of, on_value_of, control_of, net_of, kind_at, on_at, control_at, net_at, nets_of, of_kind2, table_of, record_of, cell_of, is_broken}
 use Rattle.rules.specs.declared.Cell.{Cell}
 use Rattle.rules.specs.declared.Cell.TheVariants.{Internal, Input, Control, ThreeState, TwoState, OpenDrain}
-use Rattle.rules.specs.declared.Record.{Record}
-use Rattle.rules.specs.declared.Record.TheVariants.{Means, Broken}
+use Rattle.std.specs.Prelude.{Option, Some, None}
 
 -- the kinds whose record is to have a control, and those whose record is to have a net
 abbrev pub switches : ℕ → Bool
@@ -32,7 +31,7 @@ pub record Says (kind on control net : ℕ) (switched connected : Bool) (cell : 
   pub has-net : connects kind ≡ true → connected ≡ true
 
 -- the cell that a row of the table means, if any
-means-cell : (fits : Bool) (x cell : Cell) → means fits x ≡ Means cell → (fits ≡ true) × (x ≡ cell)
+means-cell : (fits : Bool) (x cell : Cell) → means fits x ≡ Some cell → (fits ≡ true) × (x ≡ cell)
 means-cell true x cell e = (refl, cc)
 means-cell false x cell e = let z : ◌≡◌ {A = ℕ} 0 1 = cc in absurd (omega arith)
 
@@ -44,12 +43,12 @@ on_value on h = go (eqb on 1) refl
     go false e = let z = eqb-false on 1 e in ⊎_elim (λ (l : on < 1). omega arith) (λ (l : 1 ≤ on). absurd (z (omega arith))) (order on 1)
 
 -- what holds in each row of the table holds of the row that a kind picks
-choice : (P : Record → Type 0) (a : Bool) (x y : Record) → (a ≡ true → P x) → P y → P (cond a x y)
+choice : (P : Option Cell → Type 0) (a : Bool) (x y : Option Cell) → (a ≡ true → P x) → P y → P (cond a x y)
 choice P true x y f g = f refl
 choice P false x y f g = g
 
 by-kind :
-    (P : Record → Type 0) (kind : ℕ) (r0 r1 r2 r3 r4 r5 other : Record) →
+    (P : Option Cell → Type 0) (kind : ℕ) (r0 r1 r2 r3 r4 r5 other : Option Cell) →
     (kind ≡ 0 → P r0) →
     (kind ≡ 1 → P r1) →
     (kind ≡ 2 → P r2) →
@@ -71,7 +70,7 @@ module _ (kind on control net : ℕ) (switched connected : Bool) (cell : Cell) w
   row :
       (a c n : Bool) (x : Cell) →
       (a ≡ true → c ≡ true → n ≡ true → Says kind on control net switched connected x) →
-      means (a && c && n) x ≡ Means cell →
+      means (a && c && n) x ≡ Some cell →
       Says kind on control net switched connected cell
   row a c n x says e =
       let m = means-cell (a && c && n) x cell e in
@@ -93,10 +92,10 @@ module _ (kind on control net : ℕ) (switched connected : Bool) (cell : Cell) w
       record { kind-is = k; on-is = o; control-is = c; net-is = n; has-control = has-control; has-net = has-net }
 
   -- "one is never used as the other": a record that is not broken means the cell that has its very columns
-  pub table-says : table_of kind on control net switched connected ≡ Means cell → Says kind on control net switched connected cell
+  pub table-says : table_of kind on control net switched connected ≡ Some cell → Says kind on control net switched connected cell
   unfolding table_of kind_of on_value_of control_of net_of
   table-says =
-      by-kind (λ (r : Record). r ≡ Means cell → Says kind on control net switched connected cell) kind _ _ _ _ _ _ _
+      by-kind (λ (r : Option Cell). r ≡ Some cell → Says kind on control net switched connected cell) kind _ _ _ _ _ _ _
       (λ k. row (eqb on 0) (eqb control none) (eqb net none) Internal
       (λ o c n. columns _ (sym k) (is on 0 o) (is control none c) (is net none n) (undue switches k refl) (undue connects k refl)))
       (λ k. row (eqb on 0) (eqb control none) connected (Input (record { 0 = net }))
@@ -121,29 +120,29 @@ pub record-says : (file : List ℕ) (p : ℕ) → is_broken (record_of file p) �
 unfolding record_of
 record-says file p e = go (record_of file p) refl e
   where
-    go : (r : Record) → record_of file p ≡ r → is_broken r ≡ false → SaysAt file p (cell_of r)
-    go (Means cell) q h = table-says _ _ _ _ _ _ cell q
-    go Broken q h = absurd (false≢true (sym h))
+    go : (r : Option Cell) → record_of file p ≡ r → is_broken r ≡ false → SaysAt file p (cell_of r)
+    go (Some cell) q h = table-says _ _ _ _ _ _ cell q
+    go None q h = absurd (false≢true (sym h))
 
 -- a record that is not broken needs no second look at its columns: its kind says which of them its cell holds
-abbrev pub plain_record : ℕ → ℕ → ℕ → ℕ → Record
+abbrev pub plain_record : ℕ → ℕ → ℕ → ℕ → Option Cell
 plain_record kind on control net =
     by_kind kind
-    (Means Internal)
-    (Means (Input (record { 0 = net })))
-    (Means (Control (eqb on 1)))
-    (Means (ThreeState (record { 0 = control }) (record { 0 = net })))
-    (Means (TwoState (record { 0 = net })))
-    (Means (OpenDrain (record { 0 = net })))
-    Broken
+    (Some Internal)
+    (Some (Input (record { 0 = net })))
+    (Some (Control (eqb on 1)))
+    (Some (ThreeState (record { 0 = control }) (record { 0 = net })))
+    (Some (TwoState (record { 0 = net })))
+    (Some (OpenDrain (record { 0 = net })))
+    None
 
-kept : (fits : Bool) (cell : Cell) → is_broken (means fits cell) ≡ false → means fits cell ≡ Means cell
+kept : (fits : Bool) (cell : Cell) → is_broken (means fits cell) ≡ false → means fits cell ≡ Some cell
 kept true cell h = refl
 kept false cell h = absurd (false≢true (sym h))
 
 -- one choice for both sides
 choose :
-    (a : Bool) (x y u v : Record) →
+    (a : Bool) (x y u v : Option Cell) →
     (is_broken x ≡ false → x ≡ u) →
     (is_broken y ≡ false → y ≡ v) →
     is_broken (cond a x y) ≡ false →

@@ -4,10 +4,9 @@ use Prim.Native.Nat.{ℕ, ◌<◌}
 use mathlib.Core.Path.{◌≡◌}
 use mathlib.Core.List.{List, [], ◌∷◌, ◌++◌}
 use native.Mathlib.Omega.{arith}
-use Rattle.rules.specs.Refusals.{Check, judge, shape_checks, file_checks, net_checks, control_checks, early_checks, board_checks}
+use Rattle.rules.specs.Refusals.{Refused, Check, judge, shape_checks, file_checks, net_checks, control_checks, early_checks, board_checks}
 use Rattle.rules.specs.Refusals.{count_checks, groups_checks, vector_checks, marks_checks}
 use Rattle.rules.specs.declared.Refusal.{Refusal}
-use Rattle.rules.specs.declared.Verdict.TheVariants.{Refused}
 use Rattle.rules.proofs.Verdicts.{First, here, later, given-first}
 
 -- each check of a list says a positive number, at every place

@@ -10,14 +10,13 @@ use native.Mathlib.Nat.{eq-or-lt_of_le}
 use native.Mathlib.Omega.{arith}
 use borrow.Author.Tests.{eqb-true, eq-eqb}
 use lib.Dec.{eqb}
+use Rattle.std.specs.Prelude.{Ok, Err}
 use Rattle.base.proofs.BoolLaws.{Decided, decided, order, left, right, both, not-fails, fails-not, clashes, fails-if, passes-if}
 use Rattle.base.proofs.TestLaws.{any-member, any_none}
 use Rattle.rules.specs.File.{Board, board_of}
 use Rattle.rules.specs.Drivers.{is_control, drives, drivers, outputs, meets, inside, crosses}
-use Rattle.rules.specs.Refusals.{judge, number_of, unequal, control_checks, early_checks, board_checks}
+use Rattle.rules.specs.Refusals.{Accepted, Verdict, judge, number_of, unequal, control_checks, early_checks, board_checks}
 use Rattle.rules.specs.declared.Refusal.{Refusal}
-use Rattle.rules.specs.declared.Verdict.{Verdict}
-use Rattle.rules.specs.declared.Verdict.TheVariants.{Accepted, Refused}
 use Rattle.rules.proofs.Verdicts.{AllPass, First, here, later, all_pass, accepted, given-first, judge-append}
 use Rattle.rules.proofs.Acceptance.{Early, early}
 use Rattle.rules.proofs.NetSetLaws.{Affects, Disjoint, Included, meets-net, apart, included, not-included, outputs-drivers}
@@ -133,5 +132,5 @@ refused-exactly file e = (kept, λ broken. go broken (judge (board_checks file))
     which r (later p (later _ x)) = elim x [ ]
 
     go : (Requirement (board_of file) → ⊥) → (v : Verdict) → judge (board_checks file) ≡ v → (number_of v ≡ 10) ⊎ (number_of v ≡ 11)
-    go broken Accepted q = absurd (broken ((accepted-exactly file e).0 q))
-    go broken (Refused r) q = which r (given-first (control_checks (board_of file)) r (sym (rest file e) ∙ q))
+    go broken (Ok _) q = absurd (broken ((accepted-exactly file e).0 q))
+    go broken (Err r) q = which r (given-first (control_checks (board_of file)) r (sym (rest file e) ∙ q))

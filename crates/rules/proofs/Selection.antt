@@ -18,8 +18,7 @@ use Rattle.base.proofs.ListLaws.{has-append}
 use Rattle.rules.specs.File.{Board, board_of, net_of}
 use Rattle.rules.specs.Drivers.{controlled, control_for, is_control, on_net, driver_of, controls, degree}
 use Rattle.rules.specs.Groups.{first_pass, second_pass, selected, earlier, group}
-use Rattle.rules.specs.Refusals.{judge, early_checks, control_checks, board_checks}
-use Rattle.rules.specs.declared.Verdict.TheVariants.{Accepted}
+use Rattle.rules.specs.Refusals.{Accepted, judge, early_checks, control_checks, board_checks}
 use Rattle.rules.proofs.Verdicts.{all_pass, append-pass, accepted}
 use Rattle.rules.proofs.Acceptance.{Early, early}
 use Rattle.rules.proofs.NetSetLaws.{Affects, meets_at, drives-driver, driver-own, outputs-drivers}

@@ -11,8 +11,7 @@ use lib.ListN.{length}
 use Rattle.base.specs.Digits.{ceil}
 use Rattle.base.proofs.BoolLaws.{left, right, or-neither, passes-not, order}
 use Rattle.rules.specs.File.{block_size, record_size, blocks_in, block_at, cells_of, nets_of, limit_of, record_at, broken_at}
-use Rattle.rules.specs.Refusals.{judge, most_cells, most_nets, most_limit, most_blocks, wrong_length, within, outside, blocks_for, block_wrong, shape_checks, file_checks}
-use Rattle.rules.specs.declared.Verdict.TheVariants.{Accepted}
+use Rattle.rules.specs.Refusals.{Accepted, judge, most_cells, most_nets, most_limit, most_blocks, wrong_length, within, outside, blocks_for, block_wrong, shape_checks, file_checks}
 use Rattle.rules.proofs.Verdicts.{all_pass, append-pass, accepted}
 
 -- a number within its limits

@@ -22,11 +22,10 @@ use Rattle.rules.specs.Drivers.{controlled, control_for, open_drain, always_on, 
 use Rattle.rules.specs.Groups.{on_in, group_row}
 use Rattle.rules.specs.Vectors.{Vector, bases_of, width_of, between, inserted_after, steps_of, vector_of, plan_of, total_of, vector_at, cell_bit, vector_row}
 use Rattle.rules.specs.Lines.{loaded, switched_on}
-use Rattle.rules.specs.Refusals.{judge, board_checks}
+use Rattle.rules.specs.Refusals.{Accepted, judge, board_checks}
 use Rattle.rules.specs.declared.Cell.{Cell}
 use Rattle.rules.specs.declared.Cell.TheVariants.{Internal, Input, Control, ThreeState, TwoState, OpenDrain}
 use Rattle.rules.specs.declared.Step.TheVariants.{Base, Inserted}
-use Rattle.rules.specs.declared.Verdict.TheVariants.{Accepted}
 use Rattle.rules.specs.Rows.{row_bit}
 use Rattle.rules.proofs.RowLaws.{row-bit}
 use Rattle.rules.proofs.Codes.{width-least}

@@ -8,15 +8,14 @@ use mathlib.Core.List.{List, [], ◌∷◌, ◌++◌}
 use native.Mathlib.Omega.{arith}
 use borrow.Author.Tests.{lt-ltb, le-ltb}
 use lib.Dec.{eqb}
+use Rattle.std.specs.Prelude.{Ok, Err}
 use Rattle.base.specs.Tests.{least}
 use Rattle.base.proofs.BoolLaws.{order}
 use Rattle.base.proofs.TestLaws.{Lowest, least-lowest, least_at, least-none}
 use Rattle.rules.specs.File.{Board, board_of}
-use Rattle.rules.specs.Refusals.{Check, judge, paired, numbered, each, crosser, shape_checks, file_checks, net_checks, control_checks, early_checks, board_checks}
+use Rattle.rules.specs.Refusals.{Accepted, Refused, Verdict, Check, judge, paired, numbered, each, crosser, shape_checks, file_checks, net_checks, control_checks, early_checks, board_checks}
 use Rattle.rules.specs.Refusals.{count_checks, groups_checks, vector_checks, marks_checks}
 use Rattle.rules.specs.declared.Refusal.{Refusal}
-use Rattle.rules.specs.declared.Verdict.{Verdict}
-use Rattle.rules.specs.declared.Verdict.TheVariants.{Accepted, Refused}
 
 -- a check passes: it applies at none of its places
 abbrev pub Passes : Check → Type 0
@@ -44,8 +43,8 @@ never r e = let z : ◌≡◌ {A = ℕ} 0 1 = cc in omega arith
 
 -- the refusal of a verdict, or another where it has none
 refusal_of : Refusal → Verdict → Refusal
-refusal_of other Accepted = other
-refusal_of other (Refused r) = r
+refusal_of other (Ok _) = other
+refusal_of other (Err r) = r
 
 -- one check: it passes, and the list goes on
 pub judge-passes : (check : Check) (checks : List Check) → Passes check → judge (check ∷ checks) ≡ judge checks
@@ -101,8 +100,8 @@ given-first (check ∷ checks) r e =
 
 -- what one list answers, and where it accepts what the next does
 abbrev pub and_then : Verdict → Verdict → Verdict
-and_then Accepted next = next
-and_then (Refused r) next = Refused r
+and_then (Ok _) next = next
+and_then (Err r) next = Refused r
 
 pub judge-then : (xs ys : List Check) → judge (xs ++ ys) ≡ and_then (judge xs) (judge ys)
 unfolding judge

@@ -1,18 +1,16 @@
 -- The four questions: every returned number and the lent buffer afterwards, and the 64 bits in which the numbers reach C. Assumes nothing.
-use Rattle.std.specs.Prelude.{ℕ, ◌+◌, ◌*◌, ◌^◌, List, [], ◌∷◌, ◌++◌, length, drop}
+use Rattle.std.specs.Prelude.{Ok, Err, ℕ, ◌+◌, ◌*◌, ◌^◌, List, [], ◌∷◌, ◌++◌, length, drop}
 use Rattle.rules.specs.File.{Board, board_of}
 use Rattle.rules.specs.Drivers.{groups_of}
 use Rattle.rules.specs.Groups.{group_rows}
 use Rattle.rules.specs.Vectors.{width_of, total_of, vector_at, vector_row}
 use Rattle.rules.specs.Marks.{marks_of, bytes_that, is_pass, is_fail, is_unsure}
-use Rattle.rules.specs.Refusals.{judge, number_of, place_of, second_of, groups_checks, count_checks, vector_checks, marks_checks}
-use Rattle.rules.specs.declared.Verdict.{Verdict}
-use Rattle.rules.specs.declared.Verdict.TheVariants.{Accepted, Refused}
+use Rattle.rules.specs.Refusals.{Verdict, judge, number_of, place_of, second_of, groups_checks, count_checks, vector_checks, marks_checks}
 
 -- "A refusal returns number and place, every other returned number 0, and no lent byte differs"
 abbrev pub unless {ℓ} : {A : Type ℓ} → Verdict → A → A → A
-unless Accepted answer refused = answer
-unless (Refused r) answer refused = refused
+unless (Ok t) answer refused = answer
+unless (Err r) answer refused = refused
 
 -- "Bytes of a buffer past those needed keep their values"
 abbrev pub over : List ℕ → List ℕ → List ℕ

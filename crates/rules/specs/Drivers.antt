@@ -1,37 +1,42 @@
 -- Who drives what: outputs, control cells and their net sets, the drivers of a net. What the cell at a position drives is said once, by
 -- driver_at; it, what is read off it and what counts as a control cell are opened by their own laws alone (DriverLaws). Assumes nothing.
-use Rattle.std.specs.Prelude.{ℕ, max, Bool, true, false, not, ◌&&◌, ◌||◌, eqb}
+use Rattle.std.specs.Prelude.{Option, Some, None, ℕ, max, Bool, true, false, not, ◌&&◌, ◌||◌, eqb}
 use Rattle.base.specs.Tests.{any, all, largest}
 use Rattle.base.specs.Counting.{count}
 use Rattle.rules.specs.File.{Board, none, kind_of, net_of}
 use Rattle.rules.specs.declared.Cell.{Cell}
 use Rattle.rules.specs.declared.Cell.TheVariants.{Internal, Input, Control, ThreeState, TwoState, OpenDrain}
 use Rattle.rules.specs.declared.Driver.{Driver}
-use Rattle.rules.specs.declared.Driver.TheVariants.{Of, Nothing}
+use Rattle.rules.specs.declared.Position.{Position}
+use Rattle.rules.specs.declared.Net.{Net}
+
+-- the driver that this control cell switches, on this net
+abbrev pub Of : Position → Net → Option Driver
+Of k n = Some (record { control = k; net = n })
 
 -- what this cell drives at position c: a "three-state output" is a driver of the control cell that its record names, an open-drain output
 -- "counts as a control cell of its own with that one net" (request [3])
-unfoldable pub driver_in : ℕ → Cell → Driver
-driver_in c Internal = Nothing
-driver_in c (Input n) = Nothing
-driver_in c (Control on) = Nothing
+unfoldable pub driver_in : ℕ → Cell → Option Driver
+driver_in c Internal = None
+driver_in c (Input n) = None
+driver_in c (Control on) = None
 driver_in c (ThreeState k n) = Of k n
-driver_in c (TwoState n) = Nothing
+driver_in c (TwoState n) = None
 driver_in c (OpenDrain n) = Of (record { 0 = c }) n
 
--- what the cell at c drives
-unfoldable pub driver_at : Board → ℕ → Driver
+-- what the cell at c drives: a controlled driver, or nothing that a control cell switches
+unfoldable pub driver_at : Board → ℕ → Option Driver
 driver_at b c = driver_in c (b.cell c)
 
 -- a driver has a control cell
-unfoldable pub is_driver : Driver → Bool
-is_driver (Of k n) = true
-is_driver Nothing = false
+unfoldable pub is_driver : Option Driver → Bool
+is_driver (Some d) = true
+is_driver None = false
 
 -- which; "65,535 means none"
-unfoldable pub control_in : Driver → ℕ
-control_in (Of k n) = k.0
-control_in Nothing = none
+unfoldable pub control_in : Option Driver → ℕ
+control_in (Some d) = d.control.0
+control_in None = none
 
 -- the cell at c is a driver that a control cell switches
 unfoldable pub controlled : Board → ℕ → Bool

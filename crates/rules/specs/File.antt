@@ -1,11 +1,9 @@
 -- "The board file": bytes, blocks, the two sums, the header, the records, and the board that they say. Assumes nothing.
-use Rattle.std.specs.Prelude.{ℕ, ◌+◌, ◌*◌, ◌-◌, ◌/◌, ◌%◌, min, Bool, true, false, cond, ◌&&◌, List, [], ◌∷◌, ltb, eqb, length, get_or, take, drop}
+use Rattle.std.specs.Prelude.{Option, Some, None, ℕ, ◌+◌, ◌*◌, ◌-◌, ◌/◌, ◌%◌, min, Bool, true, false, cond, ◌&&◌, List, [], ◌∷◌, ltb, eqb, length, get_or, take, drop}
 use Rattle.base.specs.Tests.{all}
 use Rattle.rules.specs.declared.Cell.{Cell}
 use Rattle.rules.specs.declared.Cell.TheVariants.{Internal, Input, Control, ThreeState, TwoState, OpenDrain}
 use Rattle.rules.specs.declared.Sums.{Sums}
-use Rattle.rules.specs.declared.Record.{Record}
-use Rattle.rules.specs.declared.Record.TheVariants.{Means, Broken}
 
 -- "Blocks of 512 bytes", the first 508 of them summed
 abbrev pub block_size : ℕ
@@ -146,12 +144,12 @@ unfoldable pub of_kind2 : List ℕ → ℕ → Bool
 of_kind2 file k = ltb k (cells_of file) && eqb (kind_at file k) 2
 
 -- the cell, where the columns are as the table has them
-abbrev pub means : Bool → Cell → Record
-means fits cell = cond fits (Means cell) Broken
+abbrev pub means : Bool → Cell → Option Cell
+means fits cell = cond fits (Some cell) None
 
 -- the table: for each kind its on value, control and net; `switched` says that the control is the position of a kind 2 cell, `connected`
 -- that the net is below N. Request [3]: "New cell kind 5: control none, on value 0, net below N"
-unfoldable pub table_of : ℕ → ℕ → ℕ → ℕ → Bool → Bool → Record
+unfoldable pub table_of : ℕ → ℕ → ℕ → ℕ → Bool → Bool → Option Cell
 table_of kind on control net switched connected =
     by_kind kind
     (means (eqb on 0 && eqb control none && eqb net none) Internal)
@@ -160,9 +158,10 @@ table_of kind on control net switched connected =
     (means (eqb on 0 && switched && connected) (ThreeState (record { 0 = control }) (record { 0 = net })))
     (means (eqb on 0 && eqb control none && connected) (TwoState (record { 0 = net })))
     (means (eqb on 0 && eqb control none && connected) (OpenDrain (record { 0 = net })))
-    Broken
+    None
 
-unfoldable pub record_of : List ℕ → ℕ → Record
+-- what the record of position p means: a cell, or nothing that the table allows
+unfoldable pub record_of : List ℕ → ℕ → Option Cell
 record_of file p =
     table_of (kind_at file p) (on_at file p) (control_at file p) (net_at file p) (of_kind2 file (control_at file p)) (ltb (net_at file p) (nets_of file))
 
@@ -200,13 +199,13 @@ net_of (TwoState n) = n.0
 net_of (OpenDrain n) = n.0
 
 -- a broken record has no cell; the check of records refuses it before anything asks
-abbrev pub cell_of : Record → Cell
-cell_of (Means cell) = cell
-cell_of Broken = Internal
+abbrev pub cell_of : Option Cell → Cell
+cell_of (Some cell) = cell
+cell_of None = Internal
 
-abbrev pub is_broken : Record → Bool
-is_broken (Means cell) = false
-is_broken Broken = true
+abbrev pub is_broken : Option Cell → Bool
+is_broken (Some cell) = false
+is_broken None = true
 
 -- "a record breaks the table above"
 unfoldable pub broken_at : List ℕ → ℕ → Bool

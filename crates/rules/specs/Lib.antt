@@ -9,3 +9,4 @@ pub mod Lines
 pub mod Marks
 pub mod Refusals
 pub mod Answers
+pub mod Checking

@@ -1,5 +1,5 @@
 -- "Numbered refusals": the table as a list of checks with their places, and the list that each question uses. Assumes nothing.
-use Rattle.std.specs.Prelude.{ℕ, zero, suc, ◌+◌, ◌*◌, ◌/◌, ◌%◌, Bool, cond, not, ◌&&◌, ◌||◌, List, [], ◌∷◌, ◌++◌, ltb, leb, eqb, length}
+use Rattle.std.specs.Prelude.{Result, Ok, Err, ⊤, ℕ, zero, suc, ◌+◌, ◌*◌, ◌/◌, ◌%◌, Bool, cond, not, ◌&&◌, ◌||◌, List, [], ◌∷◌, ◌++◌, ltb, leb, eqb, length}
 use Rattle.base.specs.Tests.{any, least}
 use Rattle.base.specs.Digits.{ceil}
 use Rattle.rules.specs.Rows.{row_bytes}
@@ -7,8 +7,6 @@ use Rattle.rules.specs.File.{Board, block_size, block_records, blocks_in, sums_r
 use Rattle.rules.specs.Drivers.{always_on, controlled, control_for, output_of, drivers, drives, crosses, is_control, groups_of}
 use Rattle.rules.specs.Vectors.{total_of}
 use Rattle.rules.specs.declared.Refusal.{Refusal}
-use Rattle.rules.specs.declared.Verdict.{Verdict}
-use Rattle.rules.specs.declared.Verdict.TheVariants.{Accepted, Refused}
 
 -- "Limits: C 1 to 1,024; N 1 to 256; SSOL 1 to 1,024; at most 16 controlled drivers on a net; at most 4,096 vectors"; a file has at most 14 blocks
 abbrev pub most_cells : ℕ
@@ -35,6 +33,16 @@ most_bytes = (most_cells + 7) / 8
 
 abbrev pub most_width : ℕ
 most_width = 9
+
+-- what checking answers: accepted, or the refusal that applies
+abbrev pub Verdict : Type 0
+Verdict = Result ⊤ Refusal
+
+abbrev pub Accepted : Verdict
+Accepted = Ok tt
+
+abbrev pub Refused : Refusal → Verdict
+Refused r = Err r
 
 -- a row of the table: how many places it looks at (from 0), at which of them it applies, and the refusal that it says of a place
 pub record Check : Type 0 where
@@ -63,16 +71,16 @@ judge (check ∷ checks) =
 
 -- a verdict's number and places: "An accepted call returns 0 for number and place"
 unfoldable pub number_of : Verdict → ℕ
-number_of Accepted = 0
-number_of (Refused r) = r.number
+number_of (Ok t) = 0
+number_of (Err r) = r.number
 
 unfoldable pub place_of : Verdict → ℕ
-place_of Accepted = 0
-place_of (Refused r) = r.place
+place_of (Ok t) = 0
+place_of (Err r) = r.place
 
 unfoldable pub second_of : Verdict → ℕ
-second_of Accepted = 0
-second_of (Refused r) = r.second
+second_of (Ok t) = 0
+second_of (Err r) = r.second
 
 -- 1: "file empty, not a multiple of 512, or over 14 blocks"
 unfoldable pub wrong_length : List ℕ → Bool

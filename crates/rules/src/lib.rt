@@ -2,10 +2,11 @@
 // answers. The types hold no rule: what each value means stands in specs/.
 #![tactic(auto)]
 
-ghost use Rattle.std.specs.Prelude.{◌≡◌, [], ◌∷◌, ◌≤◌};
+ghost use Rattle.std.specs.Prelude.{◌≡◌, ℕ, Bool, [], ◌∷◌, ◌+◌, ◌<◌, ◌≤◌};
 ghost use Rattle.rules.specs.File.{most_number};
-ghost use Rattle.rules.specs.Refusals.{judge, once, refuse, paired};
-ghost use Rattle.rules.specs.declared.Verdict.TheVariants.{Refused};
+ghost use Rattle.rules.specs.Marks.{byte_of};
+ghost use Rattle.rules.specs.Refusals.{Refused, judge, once, each, refuse, paired};
+ghost use Rattle.rules.specs.Checking.{Computes};
 
 // The limits and the file's measures, each said here once; every other crate derives its own from these.
 // "Blocks of 512 bytes", the first 508 of them summed.
@@ -67,19 +68,11 @@ pub enum Cell {
     OpenDrain(Net),
 }
 
-// What the cell at a position drives: a controlled driver with its control cell and its net, or nothing
-// that a control cell switches.
+// A controlled driver: the control cell that switches it, and its net.
 #[derive(Clone, Copy)]
-pub enum Driver {
-    Of(Position, Net),
-    Nothing,
-}
-
-// What a record says: a cell, or nothing that the table allows.
-#[derive(Clone, Copy)]
-pub enum Record {
-    Means(Cell),
-    Broken,
+pub struct Driver {
+    pub control: Position,
+    pub net: Net,
 }
 
 // The two sums of a block.
@@ -97,12 +90,8 @@ pub struct Refusal {
     pub second: u16,
 }
 
-// What checking answers.
-#[derive(Clone, Copy)]
-pub enum Verdict {
-    Accepted,
-    Refused(Refusal),
-}
+// What checking answers: accepted, or the refusal that applies.
+pub type Verdict = Result<(), Refusal>;
 
 // A vector's place in the plan: base vector b, or the t-th inserted after it (t from 1).
 #[derive(Clone, Copy)]
@@ -120,12 +109,27 @@ pub enum Mark {
     ReadTwice,
 }
 
+// The table's byte for a mark.
+impl From<Mark> for u8 {
+    ghost from_gives = { λ mark byte. byte ≡ byte_of mark };
+
+    #[tactic(auto, unfolding(crate::specs::Marks::byte_of))]
+    fn from(mark: Mark) -> u8 {
+        match mark {
+            Mark::Pass => 0,
+            Mark::Fail => 1,
+            Mark::NotSeen => 2,
+            Mark::ReadTwice => 3,
+        }
+    }
+}
+
 // A refusal at one place.
 pub fn refuse(number: u8, place: usize) -> Verdict
     requires { place ≤ most_number }
     ensures { result ≡ refuse number place }
 {
-    Verdict::Refused(Refusal {
+    Err(Refusal {
         number,
         place: place as u16,
         second: 0,
@@ -136,7 +140,7 @@ pub fn refuse(number: u8, place: usize) -> Verdict
 pub fn refuse_pair(number: u8, place: Position, second: Position) -> Verdict
     ensures { result ≡ Refused (paired number place.0 second.0) }
 {
-    Verdict::Refused(Refusal {
+    Err(Refusal {
         number,
         place: place.0,
         second: second.0,
@@ -147,9 +151,19 @@ pub fn refuse_pair(number: u8, place: Position, second: Position) -> Verdict
 pub fn once(number: u8, fails: bool) -> Verdict
     ensures { result ≡ judge (once number fails ∷ []) }
 {
-    if fails {
-        refuse(number, 0)
-    } else {
-        Verdict::Accepted
+    if fails { refuse(number, 0) } else { Ok(()) }
+}
+
+// A check that looks at each of so many places: the lowest at which it fails is refused.
+pub fn each<F: Fn(usize) -> bool>(number: u8, places: usize, fails: F) -> Verdict
+    requires places_bound { places ≤ most_number + 1 }
+    requires callable { (place : ℕ) → place < places → F.pre fails place }
+    ensures { (test : ℕ → Bool) → Computes (F.post fails) places test → result ≡ judge (each number places test ∷ []) }
+{
+    for place in 0..places {
+        if fails(place) {
+            return refuse(number, place);
+        }
     }
+    Ok(())
 }
