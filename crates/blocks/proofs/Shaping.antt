@@ -2,10 +2,8 @@
 use Rattle.std.proofs.Common.{◌≡◌, ℕ, ◌<◌, Bool, true, false, not, ◌&&◌, List, [], ◌∷◌, ◌++◌, sym, refl, ap, ◌∙◌, subst, arith, ltb-true}
 use Rattle.base.proofs.BoolLaws.{passes-not}
 use Rattle.rules.specs.File.{blocks_in, head_right, header_right}
-use Rattle.rules.specs.Refusals.{Check, judge, once, each, wrong_length, outside, block_wrong, shape_checks}
+use Rattle.rules.specs.Refusals.{Check, judge, once, each, wrong_length, outside, block_wrong, shape_checks, Verdict, Accepted, Refused as RefusedBy}
 use Rattle.rules.specs.declared.Refusal.{Refusal}
-use Rattle.rules.specs.declared.Verdict.{Verdict}
-use Rattle.rules.specs.declared.Verdict.TheVariants.{Accepted, Refused as RefusedBy}
 use Rattle.rules.proofs.Verdicts.{Then, then_append, all_pass}
 use Rattle.blocks.specs.Reading.{sums_check, BlocksOf, verdict_of, RightTo}
 use Rattle.blocks.specs.Places.{Headed}

@@ -1,9 +1,7 @@
 -- What reading a block of a board file gives, and the sizes in its header. Assumes nothing.
 use Rattle.std.specs.Prelude.{◌≡◌, ℕ, zero, suc, ◌+◌, ◌<◌, ◌≤◌, Bool, true, false, cond, not, ◌&&◌, List, [], ◌∷◌, ◌==◌}
 use Rattle.rules.specs.File.{byte_at, number_at, block_at, blocks_in, records_in, sums_right, cells_of, nets_of, limit_of}
-use Rattle.rules.specs.Refusals.{Check, judge, each}
-use Rattle.rules.specs.declared.Verdict.{Verdict}
-use Rattle.rules.specs.declared.Verdict.TheVariants.{Accepted, Refused as RefusedBy}
+use Rattle.rules.specs.Refusals.{Check, judge, each, Verdict, Accepted, Refused as RefusedBy}
 use Rattle.blocks.specs.declared.Head.{Head}
 use Rattle.blocks.specs.declared.Sizes.{Sizes}
 use Rattle.blocks.specs.declared.Block.{Block}

@@ -13,8 +13,7 @@ use Rattle.base.proofs.BoolLaws.{decided, left, right, both, or_left, not-fails,
 use Rattle.base.proofs.TestLaws.{any_at, any-member, Lowest, seek-lowest}
 use Rattle.rules.specs.File.{Board, board_of, cells_of, nets_of, net_of}
 use Rattle.rules.specs.Drivers.{controlled, control_for, is_control, on_net, driver_of, drives, drivers, meets, inside, crosses}
-use Rattle.rules.specs.Refusals.{judge, crossed, crossed_by, unequal, file_checks}
-use Rattle.rules.specs.declared.Verdict.TheVariants.{Accepted}
+use Rattle.rules.specs.Refusals.{judge, crossed, crossed_by, unequal, file_checks, Accepted}
 use Rattle.rules.proofs.NetSetLaws.{drives-driver, meets-net}
 use Rattle.rules.proofs.CrossingLaws.{parts, crossing-of, crossed-by, by-crossing, crossed-none}
 use Rattle.rules.proofs.Shape.{laid, shaped, whole-records}

@@ -5,8 +5,7 @@ use mathlib.Core.Bool.{false}
 use mathlib.Core.List.{List, [], ◌∷◌, ◌++◌, append_assoc}
 use Rattle.rules.specs.File.{Board, board_of, cells_of, broken_at}
 use Rattle.rules.specs.Drivers.{drivers}
-use Rattle.rules.specs.Refusals.{judge, each, crossing, crossed, unequal, shape_checks, file_checks, net_checks, control_checks, early_checks, board_checks}
-use Rattle.rules.specs.declared.Verdict.TheVariants.{Accepted}
+use Rattle.rules.specs.Refusals.{judge, each, crossing, crossed, unequal, shape_checks, file_checks, net_checks, control_checks, early_checks, board_checks, Accepted}
 use Rattle.rules.proofs.Verdicts.{Then, then_append, judge-passes}
 use Rattle.nesting.specs.Bearing.{Settled}
 use Rattle.nesting.proofs.LevelLaws.{settled-equal}

@@ -10,9 +10,7 @@ use Rattle.base.specs.Tests.{least}
 use Rattle.base.proofs.BoolLaws.{order}
 use Rattle.base.proofs.TestLaws.{any_at, least_at, least-none, Lowest, least-lowest, Searched, search-next}
 use Rattle.rules.specs.File.{Board}
-use Rattle.rules.specs.Refusals.{judge, paired, crossing, crossed_by, crossed, crosser}
-use Rattle.rules.specs.declared.Verdict.{Verdict}
-use Rattle.rules.specs.declared.Verdict.TheVariants.{Accepted, Refused}
+use Rattle.rules.specs.Refusals.{judge, paired, crossing, crossed_by, crossed, crosser, Verdict, Accepted, Refused}
 use Rattle.rules.specs.declared.Position.{Position}
 use Rattle.rules.proofs.Verdicts.{judge-passes, judge-applies}
 use Rattle.rules.proofs.CrossingLaws.{crossed-none}

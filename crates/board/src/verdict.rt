@@ -1,7 +1,6 @@
 // The verdict on a board file: refusals 1 to 11, in their order.
 ghost use Rattle.std.specs.Prelude.{◌≡◌};
-ghost use Rattle.rules.specs.Refusals.{judge, file_checks, board_checks};
-ghost use Rattle.rules.specs.declared.Verdict.TheVariants.{Accepted};
+ghost use Rattle.rules.specs.Refusals.{judge, file_checks, board_checks, Accepted};
 ghost use Rattle.chains.specs.Table.{Blank};
 ghost use Rattle.chains.specs.Filling.{Filled};
 

@@ -6,9 +6,9 @@ use mathlib.Core.List.{List}
 use borrow.Author.Tests.{ne_eqb}
 use native.Mathlib.Omega.{arith}
 use lib.ListN.{length}
+use Rattle.std.specs.Prelude.{Some, None}
 use Rattle.rules.specs.File.{cells_of, record_at, record_size, table_of}
 use Rattle.rules.specs.Refusals.{most_cells}
-use Rattle.rules.specs.declared.Record.TheVariants.{Broken}
 use Rattle.rules.proofs.Shape.{laid, shaped, record-inside}
 use Rattle.cells.specs.Whole.{Shaped, Whole}
 
@@ -37,7 +37,7 @@ pub no_row :
     (kind ≡ 3 → ⊥) →
     (kind ≡ 4 → ⊥) →
     (kind ≡ 5 → ⊥) →
-    Broken ≡ table_of kind on control net switched connected
+    None ≡ table_of kind on control net switched connected
 unfolding table_of
 no_row kind on control net switched connected n0 n1 n2 n3 n4 n5 =
     rw (ne_eqb kind 0 n0, ne_eqb kind 1 n1, ne_eqb kind 2 n2, ne_eqb kind 3 n3, ne_eqb kind 4 n4, ne_eqb kind 5 n5)

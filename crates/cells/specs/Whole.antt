@@ -1,8 +1,7 @@
 -- What a function that reads records may assume of the file.
 use Rattle.std.specs.Prelude.{ℕ, ◌<◌, ◌≡◌, List}
 use Rattle.rules.specs.File.{cells_of, nets_of}
-use Rattle.rules.specs.Refusals.{judge, shape_checks, file_checks}
-use Rattle.rules.specs.declared.Verdict.TheVariants.{Accepted}
+use Rattle.rules.specs.Refusals.{judge, shape_checks, file_checks, Accepted}
 
 -- checks 1 to 5 accept the file
 pub record Shaped (file : List ℕ) : Type 0 where

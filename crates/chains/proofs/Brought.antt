@@ -11,8 +11,7 @@ use Rattle.base.proofs.BoolLaws.{left, right, both, or_left, same_test, eqb-back
 use Rattle.base.proofs.TestLaws.{any_at, any-member}
 use Rattle.rules.specs.File.{Board, board_of, cells_of, nets_of, net_of}
 use Rattle.rules.specs.Drivers.{controlled, control_for, on_net, output_of, driver_of, drives, meets}
-use Rattle.rules.specs.Refusals.{judge, file_checks}
-use Rattle.rules.specs.declared.Verdict.TheVariants.{Accepted}
+use Rattle.rules.specs.Refusals.{judge, file_checks, Accepted}
 use Rattle.rules.proofs.NetSetLaws.{driver-output, drives-driver, driver-own, meets_at, meets-net}
 use Rattle.rules.proofs.Shape.{laid, shaped, whole-records}
 use Rattle.rules.proofs.DriverLaws.{kept-net}

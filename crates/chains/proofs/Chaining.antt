@@ -14,9 +14,8 @@ use Rattle.base.specs.Tests.{any}
 use Rattle.base.proofs.BoolLaws.{decided, fails-if, clashes, below_suc}
 use Rattle.rules.specs.File.{Board, board_of, cells_of, net_of, broken_at}
 use Rattle.rules.specs.Drivers.{controlled, control_for, always_on, on_net, output_of}
-use Rattle.rules.specs.Refusals.{judge, file_checks, most_cells}
+use Rattle.rules.specs.Refusals.{judge, file_checks, most_cells, Accepted}
 use Rattle.rules.specs.declared.Cell.{Cell}
-use Rattle.rules.specs.declared.Verdict.TheVariants.{Accepted}
 use Rattle.rules.proofs.Shape.{laid, shaped, whole-records}
 use Rattle.rules.proofs.DriverLaws.{is_output, output-is, kept-control, kept-net}
 use Rattle.chains.specs.Table.{By, ControlCell, NetOf, links_from, room, head_in, link_in, spliced, Same}

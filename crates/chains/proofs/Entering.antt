@@ -9,12 +9,11 @@ use lib.Seq.{get_or-set_other}
 use Rattle.base.specs.Counting.{count}
 use Rattle.rules.specs.File.{Board, board_of, cells_of}
 use Rattle.rules.specs.Drivers.{driver_at}
-use Rattle.rules.specs.Refusals.{judge, file_checks, most_cells, most_nets}
+use Rattle.rules.specs.Refusals.{judge, file_checks, most_cells, most_nets, Accepted}
 use Rattle.rules.specs.declared.Driver.{Driver}
-use Rattle.rules.specs.declared.Driver.TheVariants as driver
+use Rattle.std.specs.Prelude.{Option, Some, None}
 use Rattle.rules.specs.declared.Position.{Position}
 use Rattle.rules.specs.declared.Net.{Net}
-use Rattle.rules.specs.declared.Verdict.TheVariants.{Accepted}
 use Rattle.rules.proofs.Shape.{laid, shaped}
 use Rattle.rules.proofs.DriverLaws.{is-driver, no-driver}
 use Rattle.chains.specs.Table.{By, ControlCell, NetOf, links_from, room, counts_from, spare_from, table_size, count_in, spliced, one_more, Blank, Same}

@@ -7,11 +7,11 @@ use native.Mathlib.Omega.{arith}
 use borrow.Author.Tests.{eqb-true, lt-ltb, ltb-true}
 use lib.Dec.{eqb, ltb}
 use Rattle.base.proofs.BoolLaws.{left, right, both, fails-if, same_test, eqb-back}
+use Rattle.std.specs.Prelude.{None, Option, Some}
 use Rattle.rules.specs.File.{Board, board_of}
-use Rattle.rules.specs.Drivers.{driver_at}
+use Rattle.rules.specs.Drivers.{driver_at, Of}
 use Rattle.rules.specs.declared.Position.{Position}
 use Rattle.rules.specs.declared.Net.{Net}
-use Rattle.rules.specs.declared.Driver.TheVariants.{Of, Nothing}
 use Rattle.rules.proofs.Shape.{laid, shaped}
 use Rattle.rules.proofs.DriverLaws.{is-driver, no-driver, net-below, control-below}
 use Rattle.words.specs.Sets.{net_words, cell_words, plus}
@@ -20,7 +20,7 @@ use Rattle.chains.specs.Sharing.{with_control, with_sharers, with_controls}
 
 module _ (b : Board) (c : ℕ) (f : ℕ → Bool) where
   -- a cell that drives nothing brings nothing
-  module _ (e : driver_at b c ≡ Nothing) where
+  module _ (e : driver_at b c ≡ None) where
     pub no-control : (floor : ℕ) → f ≡ with_control b floor c f
     unfolding with_control
     no-control floor = fun_ext (λ j. rw (no-driver b c e))

@@ -7,8 +7,7 @@ use native.Mathlib.Omega.{arith}
 use Rattle.base.specs.Tests.{any}
 use Rattle.base.proofs.TestLaws.{any_none}
 use Rattle.rules.specs.File.{board_of, cells_of, nets_of}
-use Rattle.rules.specs.Refusals.{judge, file_checks, most_cells, most_nets}
-use Rattle.rules.specs.declared.Verdict.TheVariants.{Accepted}
+use Rattle.rules.specs.Refusals.{judge, file_checks, most_cells, most_nets, Accepted}
 use Rattle.rules.proofs.Shape.{laid, shaped}
 use Rattle.cells.specs.Whole.{Sized}
 use Rattle.chains.specs.Table.{By, room, head_in, link_in}

@@ -3,8 +3,7 @@
 use Rattle.std.specs.Prelude.{ℕ, zero, suc, ◌<◌, ◌≤◌, ◌≡◌, Bool, true, false, cond, ◌||◌, List, eqb}
 use Rattle.rules.specs.File.{Board, board_of, cells_of, net_of}
 use Rattle.rules.specs.Drivers.{controlled, control_for, always_on}
-use Rattle.rules.specs.Refusals.{judge, file_checks, most_cells}
-use Rattle.rules.specs.declared.Verdict.TheVariants.{Accepted}
+use Rattle.rules.specs.Refusals.{judge, file_checks, most_cells, Accepted}
 use Rattle.chains.specs.Table.{By, ControlCell, NetOf, room, head_in, link_in}
 use Rattle.chains.specs.declared.Key.{Key}
 use Rattle.chains.specs.declared.Key.TheVariants.{Of, Nothing}

@@ -1,8 +1,7 @@
 -- What the lent table holds while and after it is filled with a whole file's chains and numbers of drivers.
 use Rattle.std.specs.Prelude.{ℕ, ◌≡◌, List, length}
 use Rattle.rules.specs.File.{cells_of}
-use Rattle.rules.specs.Refusals.{judge, file_checks}
-use Rattle.rules.specs.declared.Verdict.TheVariants.{Accepted}
+use Rattle.rules.specs.Refusals.{judge, file_checks, Accepted}
 use Rattle.chains.specs.Table.{ControlCell, NetOf, table_size, Blank}
 use Rattle.chains.specs.Chains.{Grown}
 use Rattle.chains.specs.Counts.{Counted}

@@ -1,8 +1,7 @@
 // Filling the table: the chains of outputs and the numbers of drivers, with one look at each driver.
-ghost use Rattle.std.specs.Prelude.{◌+◌, ◌<◌, ◌≡◌};
+ghost use Rattle.std.specs.Prelude.{◌+◌, ◌<◌, ◌≡◌, None};
 ghost use Rattle.rules.specs.File.{cells_of, board_of};
 ghost use Rattle.rules.specs.Drivers.{driver_at};
-ghost use Rattle.rules.specs.declared.Driver.TheVariants.{Nothing};
 ghost use Rattle.chains.specs.Filling.{Entered, Fillable, Filled};
 
 use crate::{Key, LINKS, NET_LINKS, TABLE, count_driver, net_key, splice};
@@ -13,7 +12,7 @@ use rules::{Driver, Position};
 fn enter_other(file: &[u8], table: &mut [u16; TABLE], c: Position)
     requires entered { Entered file.now c.0 table.old }
     requires c_bound { c.0 < cells_of file.now }
-    requires c_value { driver_at (board_of file.now) c.0 ≡ Nothing }
+    requires c_value { driver_at (board_of file.now) c.0 ≡ None }
     ensures { Entered file.now (c.0 + 1) table.new }
 {
     let output = net_key(file, c);

@@ -9,11 +9,10 @@ use lib.Dec.{eqb}
 use Rattle.rules.specs.File.{Board, board_of, cells_of, nets_of, kind_of, net_of, kind_at, broken_at}
 use Rattle.rules.specs.Drivers.{is_input, on_net}
 use Rattle.rules.specs.Marks.{input_of}
-use Rattle.rules.specs.Refusals.{judge, file_checks}
+use Rattle.rules.specs.Refusals.{judge, file_checks, Accepted}
 use Rattle.rules.specs.declared.Cell.{Cell}
 use Rattle.rules.specs.declared.Cell.TheVariants.{Internal, Input, Control, ThreeState, TwoState, OpenDrain}
 use Rattle.rules.specs.declared.Net.{Net}
-use Rattle.rules.specs.declared.Verdict.TheVariants.{Accepted}
 use Rattle.rules.proofs.RecordLaws.{SaysAt, record-says}
 use Rattle.rules.proofs.Shape.{laid, shaped, whole-records}
 use Rattle.words.specs.Sets.{net_words}

@@ -5,13 +5,12 @@ use Rattle.base.specs.Lists.{table}
 use Rattle.rules.specs.File.{Board, cells_of, nets_of}
 use Rattle.rules.specs.Drivers.{is_input, on_net}
 use Rattle.rules.specs.Marks.{input_of, unseen, first_given, byte_of, bytes_that, is_pass, is_fail, is_unsure}
-use Rattle.rules.specs.Refusals.{most_nets, judge, file_checks}
+use Rattle.rules.specs.Refusals.{most_nets, judge, file_checks, Accepted}
 use Rattle.rules.specs.Answers.{over}
 use Rattle.rules.specs.declared.Cell.{Cell}
 use Rattle.rules.specs.declared.Cell.TheVariants.{Internal, Input, Control, ThreeState, TwoState, OpenDrain}
 use Rattle.rules.specs.declared.Mark.{Mark}
 use Rattle.rules.specs.declared.Mark.TheVariants.{Fail, NotSeen, ReadTwice}
-use Rattle.rules.specs.declared.Verdict.TheVariants.{Accepted}
 use Rattle.words.specs.Sets.{member}
 use Rattle.marks.specs.declared.Reader.{Reader}
 use Rattle.marks.specs.declared.Reader.TheVariants.{Of, Nothing}

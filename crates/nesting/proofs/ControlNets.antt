@@ -8,8 +8,7 @@ use borrow.Author.Tests.{eqb-true, eq-eqb}
 use Rattle.base.proofs.BoolLaws.{left, right, both, or_left, clashes}
 use Rattle.rules.specs.File.{Board, board_of, nets_of, net_of}
 use Rattle.rules.specs.Drivers.{on_net, driver_of, drives}
-use Rattle.rules.specs.Refusals.{judge, file_checks, most_nets}
-use Rattle.rules.specs.declared.Verdict.TheVariants.{Accepted}
+use Rattle.rules.specs.Refusals.{judge, file_checks, most_nets, Accepted}
 use Rattle.rules.proofs.NetSetLaws.{drives-driver}
 use Rattle.rules.proofs.Shape.{laid, shaped, whole-records}
 use Rattle.rules.proofs.DriverLaws.{kept-net}

@@ -10,12 +10,12 @@ use borrow.Author.Tests.{eqb-true, eqb-false, eq-eqb, ne_eqb}
 use lib.Dec.{eqb}
 use Rattle.base.proofs.BoolLaws.{decided, left, right, both, or_left, or_right, or_cases, not-fails, fails-not, fails-if, clashes, order}
 use Rattle.base.proofs.TestLaws.{any_at, none_any}
+use Rattle.std.specs.Prelude.{None, Option, Some}
 use Rattle.rules.specs.File.{Board, board_of, cells_of}
-use Rattle.rules.specs.Drivers.{driver_at, controlled, control_for, always_on, on_net, output_of}
+use Rattle.rules.specs.Drivers.{driver_at, controlled, control_for, always_on, on_net, output_of, Of}
 use Rattle.rules.specs.Refusals.{clash, clashing}
 use Rattle.rules.specs.declared.Position.{Position}
 use Rattle.rules.specs.declared.Net.{Net}
-use Rattle.rules.specs.declared.Driver.TheVariants.{Of, Nothing}
 use Rattle.rules.proofs.NetSetLaws.{kinds-differ}
 use Rattle.rules.proofs.DriverLaws.{is-driver, no-driver}
 use Rattle.words.specs.Sets.{plus}
@@ -49,7 +49,7 @@ module _ (b : Board) (n : ℕ) where
   none_between from c l m o = clashes (keyed-net b n c ∙ o) (last-above from (keyed b NetOf n) c l m)
 
   -- an output that is no controlled driver is always on
-  on-else : (c : ℕ) → output_of b n c ≡ true → driver_at b c ≡ Nothing → always_on b c ≡ true
+  on-else : (c : ℕ) → output_of b n c ≡ true → driver_at b c ≡ None → always_on b c ≡ true
   unfolding output_of
   on-else c o e =
       ⊎_elim (λ k. absurd (clashes k (no-driver b c e))) (λ a. a) (or_cases (controlled b c) (right (on_net b n c) o))
@@ -88,7 +88,7 @@ module _ (b : Board) (n : ℕ) where
             why = cause c d (right (not (eqb c d) && output_of b n c && output_of b n d) t);
           }
 
-  pub always-clashes : (c : ℕ) → Several b n → c < b.size → output_of b n c ≡ true → driver_at b c ≡ Nothing → true ≡ clashing b n
+  pub always-clashes : (c : ℕ) → Several b n → c < b.size → output_of b n c ≡ true → driver_at b c ≡ None → true ≡ clashing b n
   always-clashes c several l o e =
       let d = several.another c in
       clash-at c d.0 l d.1 (record { two = d.3; first = o; second = d.2; why = inl (on-else c o e) })

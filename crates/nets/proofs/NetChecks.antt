@@ -11,8 +11,7 @@ use Rattle.base.proofs.BoolLaws.{same_test}
 use Rattle.base.proofs.TestLaws.{any_at, any-member}
 use Rattle.rules.specs.File.{board_of, cells_of, nets_of}
 use Rattle.rules.specs.Drivers.{drivers}
-use Rattle.rules.specs.Refusals.{Check, judge, each, undriven, clashing, crowded, most_drivers, most_nets, net_checks}
-use Rattle.rules.specs.declared.Verdict.{Verdict}
+use Rattle.rules.specs.Refusals.{Check, judge, each, undriven, clashing, crowded, most_drivers, most_nets, net_checks, Verdict}
 use Rattle.rules.proofs.Shape.{laid, shaped}
 use Rattle.rules.proofs.Verdicts.{and_then, Then, judge-then, judge-same}
 use Rattle.chains.specs.Table.{NetOf}

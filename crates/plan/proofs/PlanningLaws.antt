@@ -8,11 +8,10 @@ use lib.ListN.{length, get_or}
 use Rattle.base.specs.Tests.{largest}
 use Rattle.rules.specs.File.{Board, board_of, nets_of, limit_of}
 use Rattle.rules.specs.Drivers.{degree, groups_of}
-use Rattle.rules.specs.Refusals.{judge, once, board_checks, count_checks, file_checks, early_checks, most_nets, most_limit, most_drivers, most_vectors, most_width}
+use Rattle.rules.specs.Refusals.{judge, once, board_checks, count_checks, file_checks, early_checks, most_nets, most_limit, most_drivers, most_vectors, most_width, Accepted}
 use Rattle.rules.specs.Vectors.{Bases, code_width, width_of, pattern_of, bases_of, steps_of, vector_of, plan_of, total_of, vector_at}
 use Rattle.rules.specs.declared.Step.{Step}
 use Rattle.rules.specs.declared.Step.TheVariants.{Base}
-use Rattle.rules.specs.declared.Verdict.TheVariants.{Accepted}
 use Rattle.rules.proofs.Degree.{degree-drivers}
 use Rattle.rules.proofs.Selection.{sound}
 use Rattle.rules.proofs.Shape.{laid, shaped}

@@ -2,9 +2,8 @@
 use Rattle.std.specs.Prelude.{ℕ, ◌≡◌, List}
 use Rattle.rules.specs.File.{Board}
 use Rattle.rules.specs.Drivers.{groups_of}
-use Rattle.rules.specs.Refusals.{judge, count_checks}
+use Rattle.rules.specs.Refusals.{judge, count_checks, Accepted}
 use Rattle.rules.specs.Vectors.{width_of}
-use Rattle.rules.specs.declared.Verdict.TheVariants.{Accepted}
 use Rattle.select.specs.Turns.{Ready}
 use Rattle.plan.specs.declared.steps.Plan.{Plan}
 

@@ -1,9 +1,8 @@
 // A board's plan, and what every question begins with: refusals 1 to 12.
 ghost use Rattle.std.specs.Prelude.{◌≡◌, ◌∷◌, [], ltb, length};
 ghost use Rattle.rules.specs.File.{board_of};
-ghost use Rattle.rules.specs.Refusals.{judge, once, most_vectors, count_checks};
+ghost use Rattle.rules.specs.Refusals.{judge, once, most_vectors, count_checks, Accepted};
 ghost use Rattle.rules.specs.Vectors.{steps_of};
-ghost use Rattle.rules.specs.declared.Verdict.TheVariants.{Accepted};
 ghost use Rattle.chains.specs.Table.{Blank};
 ghost use Rattle.select.specs.Turns.{Ready};
 ghost use Rattle.plan.specs.Planning.{PlanOf, Admitted};

@@ -6,9 +6,8 @@ use native.Mathlib.Omega.{arith}
 use borrow.Author.Tests.{ltb-false}
 use lib.ListN.{length}
 use Rattle.rules.specs.File.{board_of, cells_of, most_number}
-use Rattle.rules.specs.Refusals.{judge, board_checks, count_checks, most_cells, most_vectors}
+use Rattle.rules.specs.Refusals.{judge, board_checks, count_checks, most_cells, most_vectors, Accepted}
 use Rattle.rules.specs.Vectors.{steps_of, total_of}
-use Rattle.rules.specs.declared.Verdict.TheVariants.{Accepted}
 use Rattle.rules.proofs.Verdicts.{all_pass, append-pass}
 use Rattle.chains.proofs.Walks.{cells_fit}
 use Rattle.plan.specs.declared.steps.Plan.{Plan}

@@ -8,12 +8,10 @@ use Rattle.rules.specs.Drivers.{groups_of}
 use Rattle.rules.specs.Groups.{group_rows}
 use Rattle.rules.specs.Vectors.{width_of, total_of, vector_at, vector_row}
 use Rattle.rules.specs.Marks.{marks_of, bytes_that, is_pass, is_fail, is_unsure}
-use Rattle.rules.specs.Refusals.{Check, judge, count_checks, groups_checks, vector_checks, marks_checks}
+use Rattle.rules.specs.Refusals.{Check, judge, count_checks, groups_checks, vector_checks, marks_checks, Verdict, Accepted, Refused}
 use Rattle.rules.specs.Answers.{Field, Outcome, unless, over, pack, packed, field}
 use Rattle.rules.specs.Answers.{count_answer, count_outcome, groups_answer, groups_outcome, vector_answer, vector_outcome, marks_answer, marks_outcome}
 use Rattle.rules.specs.declared.Refusal.{Refusal}
-use Rattle.rules.specs.declared.Verdict.{Verdict}
-use Rattle.rules.specs.declared.Verdict.TheVariants.{Accepted, Refused}
 use Rattle.rules.proofs.Verdicts.{stopped, passed, then_append}
 use Rattle.plan.specs.declared.steps.Plan.{Plan}
 use Rattle.plan.specs.Planning.{PlanOf}

@@ -15,10 +15,9 @@ use Rattle.rules.specs.Answers.{over, pack, field, marks_answer, marks_outcome}
 use Rattle.rules.specs.Rows.{row_bytes, row_bit}
 use Rattle.rules.specs.File.{Board, board_of, byte_at, cells_of, nets_of, most_number}
 use Rattle.rules.specs.Marks.{read_at, own_at, differs_at, byte_of, marks_of, bytes_that, is_pass, is_fail, is_unsure}
-use Rattle.rules.specs.Refusals.{judge, board_checks, count_checks, marks_checks, most_cells, most_width}
+use Rattle.rules.specs.Refusals.{judge, board_checks, count_checks, marks_checks, most_cells, most_width, Accepted}
 use Rattle.rules.specs.Vectors.{Bases, code_width, width_of, steps_of, vector_of, plan_of, total_of, vector_at}
 use Rattle.rules.specs.declared.Step.TheVariants.{Base}
-use Rattle.rules.specs.declared.Verdict.TheVariants.{Accepted}
 use Rattle.rules.proofs.Codes.{width-least}
 use Rattle.rules.proofs.Shape.{laid, shaped}
 use Rattle.plan.specs.declared.steps.Plan.{Plan}

@@ -1,9 +1,8 @@
 // The four questions: refusals 1 to 12, then each question's own, then its answer.
 ghost use Rattle.std.specs.Prelude.{◌≡◌};
 ghost use Rattle.rules.specs.File.{board_of};
-ghost use Rattle.rules.specs.Refusals.{judge, count_checks};
+ghost use Rattle.rules.specs.Refusals.{judge, count_checks, Accepted};
 ghost use Rattle.rules.specs.Answers.{count_answer, count_outcome, groups_answer, groups_outcome, vector_answer, vector_outcome, marks_answer, marks_outcome};
-ghost use Rattle.rules.specs.declared.Verdict.TheVariants as Verdict;
 ghost use Rattle.chains.specs.Table.{Blank};
 ghost use Rattle.plan.specs.Planning.{Admitted, PlanOf};
 ghost use Rattle.rigcandle.specs.Asking.{PlannedAs};
@@ -111,7 +110,7 @@ pub(crate) fn ask_vector(file: &[u8], number: u64, out: &mut [u8], table: &mut [
 
 // The marks of an admitted board's nets. Refusals 14 and 15.
 fn answer_marks(file: &[u8], capture: &[u8], out: &mut [u8], plan: Plan) -> u64
-    requires file_value { judge (count_checks file.now) ≡ Verdict.Accepted }
+    requires file_value { judge (count_checks file.now) ≡ Accepted }
     requires plan_of { PlanOf (board_of file.now) plan }
     ensures value { result ≡ (marks_outcome (marks_answer file.now capture.now out.old)).bits }
     ensures out_after { out.new ≡ (marks_outcome (marks_answer file.now capture.now out.old)).buffer }

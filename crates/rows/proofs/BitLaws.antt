@@ -10,11 +10,10 @@ use Rattle.rules.specs.Rows.{row_of}
 use Rattle.rules.specs.File.{Board, board_of, cells_of, net_of}
 use Rattle.rules.specs.Drivers.{controlled, always_on}
 use Rattle.rules.specs.Groups.{on_in}
-use Rattle.rules.specs.Refusals.{judge, file_checks}
+use Rattle.rules.specs.Refusals.{judge, file_checks, Accepted}
 use Rattle.rules.specs.Vectors.{Vector, cell_bit, vector_row}
 use Rattle.rules.specs.declared.Cell.{Cell}
 use Rattle.rules.specs.declared.Cell.TheVariants.{Internal, Input, Control, ThreeState, TwoState, OpenDrain}
-use Rattle.rules.specs.declared.Verdict.TheVariants.{Accepted}
 use Rattle.rules.proofs.DriverLaws.{output-is, kept-net}
 use Rattle.rules.proofs.Shape.{laid, shaped, whole-records}
 use Rattle.words.specs.Sets.{net_words, up_to}

@@ -13,8 +13,7 @@ use Rattle.rules.specs.Answers.{over}
 use Rattle.rules.specs.Rows.{row_bytes, row_of}
 use Rattle.rules.specs.File.{Board, board_of, cells_of, most_number, number_values}
 use Rattle.rules.specs.Groups.{selected, earlier, on_in, group_row, group_rows}
-use Rattle.rules.specs.Refusals.{judge, board_checks, most_cells, most_bytes}
-use Rattle.rules.specs.declared.Verdict.TheVariants.{Accepted}
+use Rattle.rules.specs.Refusals.{judge, board_checks, most_cells, most_bytes, Accepted}
 use Rattle.rules.proofs.RowLaws.{row-length}
 use Rattle.rules.proofs.Selection.{sound}
 use Rattle.rules.proofs.GroupsDriven.{on-cell}

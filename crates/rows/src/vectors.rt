@@ -2,8 +2,7 @@
 ghost use Rattle.std.specs.Prelude.{◌≡◌, true, cond, not, ◌<◌, ◌*◌, length};
 ghost use Rattle.rules.specs.File.{board_of, cells_of};
 ghost use Rattle.rules.specs.Answers.{over};
-ghost use Rattle.rules.specs.Refusals.{judge, file_checks};
-ghost use Rattle.rules.specs.declared.Verdict.TheVariants.{Accepted};
+ghost use Rattle.rules.specs.Refusals.{judge, file_checks, Accepted};
 ghost use Rattle.rules.specs.Vectors.{vector_at, vector_row};
 ghost use Rattle.words.specs.Sets.{net_words, cell_words, member, plus_if, up_to};
 ghost use Rattle.cells.specs.Whole.{Whole};

@@ -11,12 +11,12 @@ use native.Mathlib.Omega.{arith}
 use borrow.Author.Tests.{eqb-true, eqb-false, eq-eqb}
 use lib.Dec.{eqb}
 use Rattle.base.proofs.BoolLaws.{left, right, both, or_left, or_right, below_suc}
+use Rattle.std.specs.Prelude.{None, Option, Some}
 use Rattle.rules.specs.File.{Board, board_of, cells_of, net_of}
-use Rattle.rules.specs.Drivers.{driver_at, controlled, control_for, meets}
+use Rattle.rules.specs.Drivers.{driver_at, controlled, control_for, meets, Of}
 use Rattle.rules.specs.Groups.{marked, turn, pass}
 use Rattle.rules.specs.declared.Net.{Net}
 use Rattle.rules.specs.declared.Position.{Position}
-use Rattle.rules.specs.declared.Driver.TheVariants.{Of, Nothing}
 use Rattle.rules.proofs.PassLaws.{open_at}
 use Rattle.rules.proofs.Selection.{Sound, degrees-equal}
 use Rattle.rules.proofs.NetSetLaws.{driver-own}
@@ -147,7 +147,7 @@ module _ (b : Board) (s : Sound b) (which : Pass) (g : ℕ) (allowed : ℕ → B
   settled-none on d l m o = absurd (omega arith)
 
 -- what a position is tells whether it is a highest driver, and for a driver its control cell's head
-pub highest-none : (b : Board) (c : ℕ) → driver_at b c ≡ Nothing → false ≡ highest b c
+pub highest-none : (b : Board) (c : ℕ) → driver_at b c ≡ None → false ≡ highest b c
 unfolding highest
 highest-none b c e = rw (no-driver b c e)
 

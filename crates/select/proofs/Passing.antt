@@ -8,13 +8,13 @@ use native.Mathlib.Omega.{arith}
 use lib.Dec.{eqb}
 use Rattle.base.specs.Lists.{has}
 use Rattle.base.proofs.ListLaws.{has-append}
+use Rattle.std.specs.Prelude.{None, Option, Some}
 use Rattle.rules.specs.File.{Board, board_of, cells_of, nets_of, net_of}
-use Rattle.rules.specs.Drivers.{driver_at, controlled, drives}
+use Rattle.rules.specs.Drivers.{driver_at, controlled, drives, Of}
 use Rattle.rules.specs.Groups.{marked, turn, pass, first_pass, second_pass, selected, earlier, group, on_in}
 use Rattle.rules.specs.declared.Net.{Net}
 use Rattle.rules.specs.declared.Position.{Position}
 use Rattle.rules.specs.declared.Driver.{Driver}
-use Rattle.rules.specs.declared.Driver.TheVariants.{Of, Nothing}
 use Rattle.rules.proofs.Shape.{laid, shaped}
 use Rattle.rules.proofs.DriverLaws.{is-driver, no-driver, net-below}
 use Rattle.words.specs.Sets.{net_words, nothing, either, plus, meets_in}
@@ -61,7 +61,7 @@ cond-not x y true = refl
 cond-not x y false = refl
 
 -- what one position does is what the pass does where it stops
-stops : (b : Board) (k : Position) (n : Net) (at : Bool) (on : List ℕ) → turn_to b (cond at (Of k n) Nothing) on ≡ cond (at && not (marked b on k.0)) (k.0 ∷ on) on
+stops : (b : Board) (k : Position) (n : Net) (at : Bool) (on : List ℕ) → turn_to b (cond at (Of k n) None) on ≡ cond (at && not (marked b on k.0)) (k.0 ∷ on) on
 unfolding turn_to
 stops b k n true on = sym (cond-not (k.0 ∷ on) on (marked b on k.0))
 stops b k n false on = refl
@@ -69,7 +69,7 @@ stops b k n false on = refl
 module _ (b : Board) (wanted allowed : ℕ → Bool) (c : ℕ) (on : List ℕ) where
   turn_by : (driver : Driver) → driver_at b c ≡ driver → turn_to b (stopping wanted allowed driver) on ≡ turn b wanted allowed c on
   unfolding turn stopping turn_to
-  turn_by Nothing e = rw (no-driver b c e)
+  turn_by None e = rw (no-driver b c e)
   turn_by (Of k n) e = let d = is-driver b c k n e in rw (d.0, d.1, d.2) (stops b k n (wanted n.0 && allowed k.0) on)
 
   pub turn_is : turn_to b (stopping wanted allowed (driver_at b c)) on ≡ turn b wanted allowed c on
@@ -77,7 +77,7 @@ module _ (b : Board) (wanted allowed : ℕ → Bool) (c : ℕ) (on : List ℕ) w
 
 -- whether the pass stops at the driver that was found
 module _ (wanted allowed : ℕ → Bool) (found at : Driver) (e : found ≡ at) where
-  pub stop-none : found ≡ Nothing → found ≡ stopping wanted allowed at
+  pub stop-none : found ≡ None → found ≡ stopping wanted allowed at
   unfolding stopping
   stop-none d = rw (← e, d)
 
@@ -86,27 +86,27 @@ module _ (wanted allowed : ℕ → Bool) (found at : Driver) (e : found ≡ at) 
     unfolding stopping
     stop-here w a = rw (← e, d, w, a)
 
-    pub stop-unwanted : wanted n.0 ≡ false → Nothing ≡ stopping wanted allowed at
+    pub stop-unwanted : wanted n.0 ≡ false → None ≡ stopping wanted allowed at
     unfolding stopping
     stop-unwanted w = rw (← e, d, w)
 
-    pub stop-barred : allowed k.0 ≡ false → Nothing ≡ stopping wanted allowed at
+    pub stop-barred : allowed k.0 ≡ false → None ≡ stopping wanted allowed at
     unfolding stopping
     stop-barred a = rw (← e, d, a, and-false (wanted n.0))
 
 -- and what it stops at stands there
-kept : (k j : Position) (n m : Net) (at : Bool) → cond at (Of j m) Nothing ≡ Of k n → Of j m ≡ Of k n
+kept : (k j : Position) (n m : Net) (at : Bool) → cond at (Of j m) None ≡ Of k n → Of j m ≡ Of k n
 kept k j n m true e = e
 kept k j n m false e = cc
 
 pub stopped : (wanted allowed : ℕ → Bool) (at : Driver) (k : Position) (n : Net) → stopping wanted allowed at ≡ Of k n → at ≡ Of k n
 unfolding stopping
 stopped wanted allowed (Of j m) k n e = kept k j n m (wanted m.0 && allowed j.0) e
-stopped wanted allowed Nothing k n e = e
+stopped wanted allowed None k n e = e
 
 -- what the pass does there
 module _ (b : Board) (driver : Driver) (on : List ℕ) where
-  pub to-nothing : driver ≡ Nothing → on ≡ turn_to b driver on
+  pub to-nothing : driver ≡ None → on ≡ turn_to b driver on
   unfolding turn_to
   to-nothing d = rw d
 

@@ -1,15 +1,13 @@
 -- The two passes' tests, and what the sets of a pass hold: the control cells that are on, and their nets.
-use Rattle.std.specs.Prelude.{ℕ, ◌*◌, ◌<◌, ◌≡◌, Bool, true, false, cond, not, ◌&&◌, ◌||◌, List, [], ◌∷◌, ltb, leb, length}
+use Rattle.std.specs.Prelude.{ℕ, ◌*◌, ◌<◌, ◌≡◌, Bool, true, false, cond, not, ◌&&◌, ◌||◌, List, [], ◌∷◌, ltb, leb, length, None, Option, Some}
 use Rattle.base.specs.Lists.{has}
 use Rattle.rules.specs.File.{Board, board_of, cells_of}
-use Rattle.rules.specs.Drivers.{driver_at, degree, drives}
+use Rattle.rules.specs.Drivers.{driver_at, degree, drives, Of}
 use Rattle.rules.specs.Groups.{marked, pass}
-use Rattle.rules.specs.Refusals.{judge, board_checks}
-use Rattle.rules.specs.declared.Verdict.TheVariants.{Accepted}
+use Rattle.rules.specs.Refusals.{judge, board_checks, Accepted}
 use Rattle.rules.specs.declared.Net.{Net}
 use Rattle.rules.specs.declared.Position.{Position}
 use Rattle.rules.specs.declared.Driver.{Driver}
-use Rattle.rules.specs.declared.Driver.TheVariants.{Of, Nothing}
 use Rattle.words.specs.Sets.{net_words, member, meets_in}
 use Rattle.words.specs.declared.NetSet.{NetSet}
 use Rattle.chains.specs.Table.{ControlCell, table_size}
@@ -34,8 +32,8 @@ allowed_in Second used k = true
 
 -- a driver, if the pass stops at it: its net is wanted, and its control cell allowed
 unfoldable pub stopping : (ℕ → Bool) → (ℕ → Bool) → Driver → Driver
-stopping wanted allowed (Of k n) = cond (wanted n.0 && allowed k.0) (Of k n) Nothing
-stopping wanted allowed Nothing = Nothing
+stopping wanted allowed (Of k n) = cond (wanted n.0 && allowed k.0) (Of k n) None
+stopping wanted allowed None = None
 
 -- the driver at c, if the pass that goes by a rule stops at it; `used` are the control cells that were on in an earlier group
 abbrev pub stop_by : Board → Rule → (ℕ → Bool) → ℕ → Driver
@@ -48,7 +46,7 @@ pass_by b rule used c on = pass b (wanted_in b rule.which rule.group) (allowed_i
 -- where a pass stops, the driver's control cell is turned on, unless it is marked
 unfoldable pub turn_to : Board → Driver → List ℕ → List ℕ
 turn_to b (Of k n) on = cond (marked b on k.0) on (k.0 ∷ on)
-turn_to b Nothing on = on
+turn_to b None on = on
 
 -- a driver that some cell of the file is, or nothing
 abbrev pub OnBoard : List ℕ → Driver → Type 0

@@ -4,9 +4,9 @@ use mathlib.Core.Path.{◌≡◌, ◌∙◌, ap, ap₂}
 use mathlib.Core.List.{List}
 use native.Mathlib.Omega.{arith}
 use lib.ListN.{length, get_or}
+use Rattle.std.specs.Prelude.{None, Option, Some}
 use Rattle.rules.specs.File.{record_at, record_size, byte_at, kind_at, control_at, net_at, number_at, board_of}
-use Rattle.rules.specs.Drivers.{driver_at}
-use Rattle.rules.specs.declared.Driver.TheVariants.{Of, Nothing}
+use Rattle.rules.specs.Drivers.{driver_at, Of}
 use Rattle.rules.proofs.DriverLaws.{read-three, read-five, read-other}
 use Rattle.cells.specs.Whole.{Whole}
 use Rattle.cells.proofs.WholeLaws.{whole-bounded, in-record}
@@ -27,7 +27,7 @@ module _ (file : List ℕ) (p at : ℕ) (w : Whole file p) (e : at ≡ record_at
   unfolding net_at kind_at byte_at
   five k = rw e (read-five file w.checked p w.below (rw e at k))
 
-  other : (get_or file at 0 ≡ 3 → ⊥) → (get_or file at 0 ≡ 5 → ⊥) → Nothing ≡ driver_at (board_of file) p
+  other : (get_or file at 0 ≡ 3 → ⊥) → (get_or file at 0 ≡ 5 → ⊥) → None ≡ driver_at (board_of file) p
   other x y = read-other file w.checked p w.below (λ k. x (kind-read ∙ k)) (λ k. y (kind-read ∙ k))
 
 room : (d : After-record_start-at) → d.record_start-at.result + record_size ≤ length d.args.file.now

@@ -4,9 +4,9 @@ use mathlib.Core.Path.{◌≡◌, sym, ◌∙◌, ap, ap₂}
 use mathlib.Core.List.{List}
 use native.Mathlib.Omega.{arith}
 use lib.ListN.{length, get_or}
+use Rattle.std.specs.Prelude.{Some, None}
 use Rattle.rules.specs.File.{record_at, record_size, number_at, byte_at, kind_at, on_at, control_at, net_at, record_of, broken_at}
 use Rattle.rules.specs.declared.Cell.TheVariants.{Input, ThreeState, TwoState, OpenDrain}
-use Rattle.rules.specs.declared.Record.TheVariants.{Means}
 use Rattle.rules.proofs.RecordLaws.{plain_record, plain-record}
 use Rattle.rules.proofs.Shape.{whole-records}
 use Rattle.cells.specs.Whole.{Whole}
@@ -30,7 +30,7 @@ room d = in-record _ _ _ d.requires d.record_start-at.ensures
 
 pub returns-in-1 : goal.returns-in-1
 returns-in-1 c =
-    ap (λ (n : ℕ). Means (Input (record { 0 = n }))) c.pair.ensures ∙ as_read _ _ _ 1 c.requires c.record_start-at.ensures c.in-1.is
+    ap (λ (n : ℕ). Some (Input (record { 0 = n }))) c.pair.ensures ∙ as_read _ _ _ 1 c.requires c.record_start-at.ensures c.in-1.is
 
 pub returns-in-2 : goal.returns-in-2
 returns-in-2 c =
@@ -38,16 +38,16 @@ returns-in-2 c =
 
 pub returns-in-3 : goal.returns-in-3
 returns-in-3 c =
-    ap₂ (λ (k n : ℕ). Means (ThreeState (record { 0 = k }) (record { 0 = n }))) c.pair-in-3.ensures c.pair-in-3-2.ensures
+    ap₂ (λ (k n : ℕ). Some (ThreeState (record { 0 = k }) (record { 0 = n }))) c.pair-in-3.ensures c.pair-in-3-2.ensures
     ∙ as_read _ _ _ 3 c.requires c.record_start-at.ensures c.in-3.is
 
 pub returns-in-4 : goal.returns-in-4
 returns-in-4 c =
-    ap (λ (n : ℕ). Means (TwoState (record { 0 = n }))) c.pair-in-4.ensures ∙ as_read _ _ _ 4 c.requires c.record_start-at.ensures c.in-4.is
+    ap (λ (n : ℕ). Some (TwoState (record { 0 = n }))) c.pair-in-4.ensures ∙ as_read _ _ _ 4 c.requires c.record_start-at.ensures c.in-4.is
 
 pub returns-in-5 : goal.returns-in-5
 returns-in-5 c =
-    ap (λ (n : ℕ). Means (OpenDrain (record { 0 = n }))) c.pair-in-5.ensures ∙ as_read _ _ _ 5 c.requires c.record_start-at.ensures c.in-5.is
+    ap (λ (n : ℕ). Some (OpenDrain (record { 0 = n }))) c.pair-in-5.ensures ∙ as_read _ _ _ 5 c.requires c.record_start-at.ensures c.in-5.is
 
 pub returns-in_default : goal.returns-in_default
 unfolding record_of kind_at byte_at

@@ -4,9 +4,9 @@ use mathlib.Core.Path.{◌≡◌, refl, sym, ◌∙◌, ap}
 use mathlib.Core.Bool.{Bool}
 use borrow.Author.Rules.{rules}
 use native.Mathlib.Omega.{arith}
+use Rattle.std.specs.Prelude.{Option, Some}
 use Rattle.rules.specs.File.{board_of, cells_of}
-use Rattle.rules.specs.Drivers.{driver_at}
-use Rattle.rules.specs.declared.Driver.TheVariants.{Of}
+use Rattle.rules.specs.Drivers.{driver_at, Of}
 use Rattle.rules.proofs.DriverLaws.{driver-is, control-below}
 use Rattle.words.specs.Sets.{cell_words, member}
 use Rattle.words.proofs.SetLaws.{member-zeros}

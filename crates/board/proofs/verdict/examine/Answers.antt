@@ -1,7 +1,6 @@
 -- The file's verdict, then the nets' and the control cells', in a row; the table is filled where the file is whole.
 use mathlib.Core.Path.{◌≡◌, sym, ◌∙◌}
-use Rattle.rules.specs.Refusals.{judge, file_checks}
-use Rattle.rules.specs.declared.Verdict.TheVariants.{Accepted}
+use Rattle.rules.specs.Refusals.{judge, file_checks, Accepted}
 use Rattle.rules.proofs.Shape.{laid, shaped, one_block}
 use Rattle.rules.proofs.Verdicts.{never, stopped, passed}
 use Rattle.board.proofs.Order.{row-file, row-nets}

@@ -1,7 +1,6 @@
 -- The file's checks in a row: a refusal stops it, an acceptance goes on.
 use mathlib.Core.Path.{◌≡◌, sym, ◌∙◌}
-use Rattle.rules.specs.Refusals.{judge, shape_checks}
-use Rattle.rules.specs.declared.Verdict.TheVariants.{Accepted}
+use Rattle.rules.specs.Refusals.{judge, shape_checks, Accepted}
 use Rattle.rules.proofs.Shape.{laid, one_block}
 use Rattle.rules.proofs.Verdicts.{stopped, passed}
 use Rattle.board.proofs.Order.{row-shape}

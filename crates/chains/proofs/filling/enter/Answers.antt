@@ -1,9 +1,9 @@
 -- A driver is linked by its net and by its control cell, and counted; any other cell is enter_other's.
 use mathlib.Core.Path.{◌≡◌}
 use native.Mathlib.Omega.{arith}
+use Rattle.std.specs.Prelude.{Option, Some}
 use Rattle.rules.specs.File.{board_of}
-use Rattle.rules.specs.Drivers.{driver_at}
-use Rattle.rules.specs.declared.Driver.TheVariants.{Of}
+use Rattle.rules.specs.Drivers.{driver_at, Of}
 use Rattle.rules.proofs.DriverLaws.{driver-is}
 use Rattle.chains.proofs.Entering.{driver-fits, enter-driver}
 use Rattle.chains.proofs.filling.enter.Goals as goal

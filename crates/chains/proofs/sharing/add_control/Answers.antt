@@ -1,9 +1,9 @@
 -- What the cell is decides what it brings (no-control, control-not-above, one-control).
 use mathlib.Core.Path.{◌≡◌, ◌∙◌}
 use native.Mathlib.Omega.{arith}
+use Rattle.std.specs.Prelude.{Option, Some}
 use Rattle.rules.specs.File.{board_of}
-use Rattle.rules.specs.Drivers.{driver_at}
-use Rattle.rules.specs.declared.Driver.TheVariants.{Of}
+use Rattle.rules.specs.Drivers.{driver_at, Of}
 use Rattle.rules.proofs.DriverLaws.{driver-is}
 use Rattle.chains.proofs.SharingLaws.{no-control, control-not-above, one-control, control-fits}
 use Rattle.chains.proofs.sharing.add_control.Goals as goal

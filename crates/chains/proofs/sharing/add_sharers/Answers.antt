@@ -1,8 +1,8 @@
 -- What the cell is decides what it brings (no-sharers, its-sharers).
 use mathlib.Core.Path.{◌≡◌, ◌∙◌}
+use Rattle.std.specs.Prelude.{Option, Some}
 use Rattle.rules.specs.File.{board_of}
-use Rattle.rules.specs.Drivers.{driver_at}
-use Rattle.rules.specs.declared.Driver.TheVariants.{Of}
+use Rattle.rules.specs.Drivers.{driver_at, Of}
 use Rattle.rules.proofs.DriverLaws.{net-below, driver-is}
 use Rattle.chains.proofs.SharingLaws.{no-sharers, its-sharers}
 use Rattle.chains.proofs.sharing.add_sharers.Goals as goal

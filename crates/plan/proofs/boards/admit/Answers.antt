@@ -1,7 +1,6 @@
 -- The board's verdict, and then the plan's total; the table stays as the verdict left it.
 use mathlib.Core.Path.{◌≡◌, sym, ◌∙◌}
-use Rattle.rules.specs.Refusals.{judge, board_checks}
-use Rattle.rules.specs.declared.Verdict.TheVariants.{Accepted}
+use Rattle.rules.specs.Refusals.{judge, board_checks, Accepted}
 use Rattle.rules.proofs.Verdicts.{never, stopped, passed}
 use Rattle.plan.proofs.PlanningLaws.{small-plan, row_count, check-is}
 use Rattle.plan.proofs.boards.admit.Goals as goal

@@ -10,8 +10,7 @@ use lib.ListN.{length}
 use Rattle.rules.specs.Rows.{row_bytes}
 use Rattle.rules.specs.File.{board_of, cells_of}
 use Rattle.rules.specs.Vectors.{total_of}
-use Rattle.rules.specs.Refusals.{judge, once, short, board_checks, marks_checks, most_cells}
-use Rattle.rules.specs.declared.Verdict.TheVariants.{Accepted}
+use Rattle.rules.specs.Refusals.{judge, once, short, board_checks, marks_checks, most_cells, Accepted}
 use Rattle.rules.proofs.Shape.{laid, shaped, one_block}
 use Rattle.rules.proofs.CheckLaws.{once-accepted}
 use Rattle.plan.proofs.PlanningLaws.{small-plan, total-is, board-accepted, whole-file}

@@ -1,8 +1,7 @@
 -- The plan has all three numbers.
 use mathlib.Core.Path.{◌≡◌, refl, sym, ◌∙◌}
 use Rattle.rules.specs.File.{board_of}
-use Rattle.rules.specs.Refusals.{judge, count_checks}
-use Rattle.rules.specs.declared.Verdict.TheVariants.{Accepted}
+use Rattle.rules.specs.Refusals.{judge, count_checks, Accepted}
 use Rattle.plan.specs.Planning.{PlanOf}
 use Rattle.plan.proofs.PlanningLaws.{small-plan, total-is, board-accepted}
 use Rattle.rigcandle.proofs.AnswerLaws.{count-accepted, count-refused}

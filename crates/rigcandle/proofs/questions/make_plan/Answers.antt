@@ -1,14 +1,13 @@
 -- Admission decides; the function's own table is blank.
 use mathlib.Core.Path.{◌≡◌, sym, ◌∙◌}
-use Rattle.rules.specs.Refusals.{judge, count_checks}
-use Rattle.rules.specs.declared.Verdict.TheVariants as Verdict
+use Rattle.rules.specs.Refusals.{judge, count_checks, Accepted}
 use Rattle.chains.proofs.TableLaws.{blank}
 use Rattle.rigcandle.proofs.AnswerLaws.{made_as, refused_as}
 use Rattle.rigcandle.proofs.questions.make_plan.Goals as goal
 use Rattle.rigcandle.proofs.questions.make_plan.Goals.{In-Accepted}
 
 -- checks 1 to 12 accept the file
-accepted : (c : In-Accepted) → judge (count_checks c.args.file.now) ≡ Verdict.Accepted
+accepted : (c : In-Accepted) → judge (count_checks c.args.file.now) ≡ Accepted
 accepted c = sym c.admit-admitted.ensures.value ∙ c.in-Accepted.is
 
 pub admit-admitted-requires : goal.admit-admitted-requires

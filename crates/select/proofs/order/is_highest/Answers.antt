@@ -1,9 +1,9 @@
 -- What the cell is decides, and for a driver its control cell's head.
 use mathlib.Core.Path.{◌≡◌}
 use native.Mathlib.Omega.{arith}
+use Rattle.std.specs.Prelude.{Option, Some}
 use Rattle.rules.specs.File.{board_of}
-use Rattle.rules.specs.Drivers.{driver_at}
-use Rattle.rules.specs.declared.Driver.TheVariants.{Of}
+use Rattle.rules.specs.Drivers.{driver_at, Of}
 use Rattle.rules.proofs.DriverLaws.{control-below, driver-is}
 use Rattle.chains.proofs.Walks.{cell-fits}
 use Rattle.select.proofs.Highest.{highest-none, highest-told}

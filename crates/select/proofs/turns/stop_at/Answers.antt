@@ -1,9 +1,9 @@
 -- Each way out is one case of whether the pass stops (stop-none to stop-barred).
 use mathlib.Core.Path.{◌≡◌, sym, ◌∙◌}
 use native.Mathlib.Omega.{arith}
+use Rattle.std.specs.Prelude.{Option, Some}
 use Rattle.rules.specs.File.{board_of}
-use Rattle.rules.specs.Drivers.{driver_at}
-use Rattle.rules.specs.declared.Driver.TheVariants.{Of}
+use Rattle.rules.specs.Drivers.{driver_at, Of}
 use Rattle.rules.proofs.DriverLaws.{driver-is}
 use Rattle.cells.specs.Whole.{Whole}
 use Rattle.chains.proofs.SharingLaws.{net-fits, control-fits}

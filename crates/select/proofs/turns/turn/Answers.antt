@@ -2,9 +2,9 @@
 use Prim.Native.Nat.{ℕ, ◌<◌}
 use mathlib.Core.Path.{◌≡◌}
 use native.Mathlib.Omega.{arith}
+use Rattle.std.specs.Prelude.{Option, Some}
 use Rattle.rules.specs.File.{board_of, cells_of}
-use Rattle.rules.specs.Drivers.{driver_at}
-use Rattle.rules.specs.declared.Driver.TheVariants.{Of}
+use Rattle.rules.specs.Drivers.{driver_at, Of}
 use Rattle.rules.proofs.DriverLaws.{control-below}
 use Rattle.cells.specs.Whole.{Whole}
 use Rattle.chains.proofs.SharingLaws.{net-fits, control-fits}
