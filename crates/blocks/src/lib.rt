@@ -318,8 +318,8 @@ fn sums_verdict(blocks: Blocks) -> rules::Verdict
     ensures { result ≡ verdict_of blocks }
 {
     match blocks {
-        Blocks::Hold(_) => rules::Verdict::Accepted,
-        Blocks::Refused(refusal) => rules::Verdict::Refused(refusal),
+        Blocks::Hold(_) => Ok(()),
+        Blocks::Refused(refusal) => Err(refusal),
     }
 }
 
@@ -348,7 +348,7 @@ fn layout_verdict(file: &[u8], cells: usize, heads: Heads) -> rules::Verdict
         }
         i += 1;
     }
-    rules::Verdict::Accepted
+    Ok(())
 }
 
 // Refusals 1 to 5, the file's shape, in their order. Each block is read once, by check 2; what it holds of its head goes on to
@@ -357,7 +357,7 @@ pub fn shape_verdict(file: &[u8]) -> rules::Verdict
     ensures { result ≡ judge (shape_checks file.now) }
 {
     let length = length_verdict(file);
-    let rules::Verdict::Accepted = length else {
+    let Ok(()) = length else {
         return length;
     };
     let blocks = read_blocks(file);
@@ -365,7 +365,7 @@ pub fn shape_verdict(file: &[u8]) -> rules::Verdict
         return sums_verdict(blocks);
     };
     let header = header_verdict(file, heads);
-    let rules::Verdict::Accepted = header else {
+    let Ok(()) = header else {
         return header;
     };
     let sizes = read_sizes(file);

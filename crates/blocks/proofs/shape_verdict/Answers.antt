@@ -7,14 +7,14 @@ use Rattle.blocks.specs.Places.{Headed}
 use Rattle.blocks.proofs.Lengths.{right-length}
 use Rattle.blocks.proofs.Shaping.{row-length, row-sums, row-header, all_held, all-refused, heads-positive}
 use Rattle.blocks.proofs.shape_verdict.Goals as goal
-use Rattle.blocks.proofs.shape_verdict.Goals.{In-Accepted, In-Hold}
+use Rattle.blocks.proofs.shape_verdict.Goals.{In-Ok, In-Hold}
 
 -- refusal 1 has passed
-long : (d : In-Accepted) → wrong_length d.args.file.now ≡ false
-long d = once-accepted 1 _ (sym d.length_verdict-length.ensures ∙ d.in-Accepted.is)
+long : (d : In-Ok) → wrong_length d.args.file.now ≡ false
+long d = once-accepted 1 _ (sym d.length_verdict-length.ensures ∙ d.in-Ok.is)
 
 long-In-Hold : (d : In-Hold) → wrong_length d.args.file.now ≡ false
-long-In-Hold d = once-accepted 1 _ (sym d.length_verdict-length.ensures ∙ d.in-Accepted.is)
+long-In-Hold d = once-accepted 1 _ (sym d.length_verdict-length.ensures ∙ d.in-Ok.is)
 
 -- and so has refusal 2, with the heads
 headed : (d : In-Hold) → Headed d.args.file.now d.in-Hold.heads
@@ -27,24 +27,24 @@ returns-in_default c = stopped (row-length _) c.length_verdict-length.ensures c.
 pub returns-in_default-blocks : goal.returns-in_default-blocks
 returns-in_default-blocks c =
     let r = all-refused _ c.read_blocks-blocks.ensures c.in_default-blocks.is c.sums_verdict.ensures in
-    passed (row-length _) c.length_verdict-length.ensures c.in-Accepted.is (stopped (row-sums _) r.0 r.1)
+    passed (row-length _) c.length_verdict-length.ensures c.in-Ok.is (stopped (row-sums _) r.0 r.1)
 
 pub returns-in_default-header : goal.returns-in_default-header
 returns-in_default-header c =
-    passed (row-length _) c.length_verdict-length.ensures c.in-Accepted.is
+    passed (row-length _) c.length_verdict-length.ensures c.in-Ok.is
     (passed (row-sums _) (sym (all_held _ c.read_blocks-blocks.ensures c.in-Hold.is).0) refl
     (stopped (row-header _) c.header_verdict-header.ensures c.in_default-header.is))
 
 pub layout_verdict-requires : goal.layout_verdict-requires
 layout_verdict-requires c =
     let told = headed (goal.at.layout_verdict-requires c).In-Hold in
-    record { headed = told; header = heads-positive _ _ told (sym c.header_verdict-header.ensures ∙ c.in-Accepted-header.is); told = c.read_sizes-sizes.ensures.cells }
+    record { headed = told; header = heads-positive _ _ told (sym c.header_verdict-header.ensures ∙ c.in-Ok-header.is); told = c.read_sizes-sizes.ensures.cells }
 
 pub returns : goal.returns
 returns c =
-    passed (row-length _) c.length_verdict-length.ensures c.in-Accepted.is
+    passed (row-length _) c.length_verdict-length.ensures c.in-Ok.is
     (passed (row-sums _) (sym (all_held _ c.read_blocks-blocks.ensures c.in-Hold.is).0) refl
-    (passed (row-header _) c.header_verdict-header.ensures c.in-Accepted-header.is c.layout_verdict.ensures))
+    (passed (row-header _) c.header_verdict-header.ensures c.in-Ok-header.is c.layout_verdict.ensures))
 
 pub read_blocks-blocks-requires : goal.read_blocks-blocks-requires
 read_blocks-blocks-requires c = long c
