@@ -7,6 +7,7 @@ use mathlib.Core.Logic.{⊎_elim}
 use mathlib.Core.Bool.{true, false}
 use mathlib.Core.List.{List}
 use native.Mathlib.Omega.{arith}
+use Rattle.std.specs.Prelude.{Option, Some, None}
 use borrow.Author.Tests.{eq-eqb}
 use lib.ListN.{length, get_or}
 use lib.Seq.{ext_get_or}
@@ -14,8 +15,6 @@ use Rattle.base.proofs.BoolLaws.{order}
 use Rattle.rules.specs.File.{board_of, cells_of}
 use Rattle.rules.specs.Refusals.{most_cells, most_nets}
 use Rattle.rules.specs.declared.Position.{Position}
-use Rattle.chains.specs.declared.Key.{Key}
-use Rattle.chains.specs.declared.Key.TheVariants.{Of, Nothing}
 use Rattle.chains.specs.Table.{By, ControlCell, NetOf, room, links_from, counts_from, spare_from, table_size, head_in, link_in, count_in, Same}
 use Rattle.chains.specs.Chains.{key_at, is_key, keyed, Chains}
 use Rattle.chains.specs.Counts.{Counted}
@@ -53,9 +52,9 @@ links-all file by t t' h k same c l =
     (λ (m : cells_of file ≤ c). same c l (λ key n. absurd (omega arith)))
     (order c (cells_of file))
   where
-    by_key : c < cells_of file → (key : Key) → key_at (board_of file) by c ≡ key → link_in by t c ≡ link_in by t' c
-    by_key m (Of n) e = links-once file by t t' h k c n m (rw e (eq-eqb n n refl))
-    by_key m Nothing e = same c l (λ key n. rw e refl)
+    by_key : c < cells_of file → (key : Option ℕ) → key_at (board_of file) by c ≡ key → link_in by t c ≡ link_in by t' c
+    by_key m (Some n) e = links-once file by t t' h k c n m (rw e (eq-eqb n n refl))
+    by_key m None e = same c l (λ key n. rw e refl)
 
 -- the entry at i, by where it stands
 at_place : (t t' : List ℕ) (i j : ℕ) → i ≡ j → get_or t j 0 ≡ get_or t' j 0 → get_or t i 0 ≡ get_or t' i 0
