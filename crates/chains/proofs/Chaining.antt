@@ -7,6 +7,7 @@ use mathlib.Core.List.{List}
 use native.Mathlib.Numerals.{add-one}
 use native.Mathlib.Omega.{arith}
 use Rattle.std.specs.Prelude.{Some, None}
+use Rattle.std.proofs.lemmas.Option.{cond_some}
 use borrow.Author.Tests.{eqb-true, eq-eqb}
 use lib.Dec.{eqb}
 use lib.ListN.{length, get_or, set}
@@ -16,10 +17,9 @@ use Rattle.base.proofs.BoolLaws.{decided, fails-if, clashes, below_suc}
 use Rattle.rules.specs.File.{Board, board_of, cells_of, net_of, broken_at}
 use Rattle.rules.specs.Drivers.{controlled, control_for, always_on, on_net, output_of}
 use Rattle.rules.specs.Refusals.{judge, file_checks, most_cells}
-use Rattle.rules.specs.declared.Cell.{Cell}
 use Rattle.rules.specs.declared.Verdict.TheVariants.{Accepted}
 use Rattle.rules.proofs.Shape.{laid, shaped, whole-records}
-use Rattle.rules.proofs.DriverLaws.{is_output, output-is, kept-control, kept-net}
+use Rattle.rules.proofs.DriverLaws.{kept-control, kept-net}
 use Rattle.chains.specs.Table.{By, ControlCell, NetOf, links_from, room, head_in, link_in, spliced, Same}
 use Rattle.chains.specs.Chains.{last, key_at, is_key, keyed, Linked}
 use Rattle.chains.proofs.TableLaws.{spliced-head, spliced-link, spliced-other}
@@ -176,18 +176,14 @@ key_below file ok by c x l e = go by e
     whole : (p : ℕ) → p < cells_of file → broken_at file p ≡ false
     whole = whole-records file ok
 
-    picked : (a : Bool) (y : ℕ) → cond a (Some y) None ≡ Some x → (a ≡ true) × (y ≡ x)
-    picked true y q = (refl, cc)
-    picked false y q = let z : ◌≡◌ {A = ℕ} 0 1 = cc in absurd (omega arith)
-
     go : (by : By) → key_at (board_of file) by c ≡ Some x → x < room by
     go ControlCell h =
-        let q = picked _ _ h in
+        let q = cond_some _ _ _ h in
         let k = (kept-control file whole c l q.0).0 in
         let cells = (laid file (shaped file ok)).cells.at_most in
         rw (← q.1) (omega arith)
     go NetOf h =
-        let q = picked _ _ h in
+        let q = cond_some _ _ _ h in
         let n = kept-net file whole c l q.0 in
         let nets = (laid file (shaped file ok)).nets.at_most in
         rw (← q.1) (omega arith)
@@ -245,8 +241,3 @@ keyed-control b k c = go (controlled b c) (control_for b c)
     go : (a : Bool) (j : ℕ) → is_key (cond a (Some j) None) k ≡ (a && eqb j k)
     go true j = refl
     go false j = refl
-
--- the net of the output that was found at c, if it is one
-pub output-key : (b : Board) (c : ℕ) (found cell : Cell) → found ≡ b.cell c → found ≡ cell → cond (is_output cell) (Some (net_of cell)) None ≡ key_at b NetOf c
-unfolding key_at
-output-key b c found cell e f = let q = sym e ∙ f in rw (output-is b c cell q, q)

@@ -1,7 +1,7 @@
 -- A blank table holds no position. One position more: a cell that is no output changes nothing, an output is linked by its net, a driver also by
 -- its control cell, and counted.
 use Prim.Native.Nat.{ℕ, ◌+◌, ◌<◌, ◌≤◌}
-use mathlib.Core.Path.{◌≡◌, refl, sym, ◌∙◌}
+use mathlib.Core.Path.{◌≡◌, refl, ◌∙◌}
 use mathlib.Core.List.{List}
 use native.Mathlib.Omega.{arith}
 use Rattle.std.specs.Prelude.{Some, None}
@@ -26,9 +26,6 @@ use Rattle.chains.proofs.TableLaws.{spliced_long, spliced-apart, more-long, more
 use Rattle.chains.proofs.Chaining.{linked-none, linked-same, linked-skip, linked-add, linked-free, key_below}
 use Rattle.chains.proofs.CountLaws.{counted_same, counted_skip, counted-add, counts-bounded}
 
-never : (x : ℕ) → Some x ≡ None → ⊥
-never x e = let z : ◌≡◌ {A = ℕ} 0 1 = cc in omega arith
-
 module _ (b : Board) (c : ℕ) where
   -- the control cell's chains go by drivers alone
   no-control : driver_at b c ≡ driver.Nothing → key_at b ControlCell c ≡ None
@@ -46,7 +43,7 @@ module _ (b : Board) (c : ℕ) where
     where
       go : (d : Driver) → driver_at b c ≡ d → driver_at b c ≡ driver.Nothing
       go driver.Nothing q = q
-      go (driver.Of k n) q = absurd (never n.0 (sym (keys k n q).1 ∙ e))
+      go (driver.Of k n) q = cc ((keys k n q).1)
 
 -- a blank table is that of no position
 pub enter-first : (file : List ℕ) → judge (file_checks file) ≡ Accepted → (t : List ℕ) → Blank t → Entered file 0 t

@@ -1,7 +1,7 @@
 -- A walk along a chain that gathers: what the set holds so far, with what is left below, is what all of the chain gives.
 use Prim.Native.Nat.{ℕ, suc, ◌<◌, ◌≤◌}
-use mathlib.Core.Path.{◌≡◌, refl, sym, ◌∙◌, ap, ap₂}
-use mathlib.Core.Bool.{Bool, true, false, ◌||◌, or-false}
+use mathlib.Core.Path.{◌≡◌, sym, ◌∙◌, ap}
+use mathlib.Core.Bool.{Bool, true, ◌||◌, or-false, or_comm, or_assoc}
 use mathlib.Core.List.{List}
 use native.Mathlib.Omega.{arith}
 use Rattle.std.specs.Prelude.{Option, None, Some}
@@ -17,11 +17,6 @@ pub record Gathered (p : ℕ → Bool) (q : ℕ → ℕ → Bool) (first so_far 
   pub top : last at p ≡ at
   pub under : at ≤ n
   pub sum : (m : ℕ) → (so_far m || any at (q m)) ≡ (first m || any n (q m))
-
-regroup : (x s y : Bool) → (x || s || y) ≡ (s || (x || y))
-regroup true true y = refl
-regroup true false y = refl
-regroup false s y = refl
 
 module _ (file : List ℕ) (by : By) (t : List ℕ) (chains : Chains file by t) (k : ℕ) (q : ℕ → ℕ → Bool) (only : (m c : ℕ) → q m c ≡ true → keyed (board_of file) by k c ≡ true) where
   abbrev pub Gathering : (ℕ → Bool) → (ℕ → Bool) → ℕ → Type 0
@@ -56,9 +51,7 @@ module _ (file : List ℕ) (by : By) (t : List ℕ) (chains : Chains file by t) 
       (record {
         top = last-again c (keyed b by k);
         under = (let u = last-le c (keyed b by k) in omega arith);
-        sum = λ m. ap₂ (λ (x y : Bool). x || y) (grown m) (sym (any_last c (keyed b by k) (q m) (λ d l. only m d)))
-            ∙ regroup (q m c) (so_far m) (any c (q m))
-            ∙ now.sum m;
+        sum = λ m. rw (grown m, ← any_last c (keyed b by k) (q m) (λ d l. only m d), or_comm (q m c) (so_far m), or_assoc) (now.sum m);
       })
 
   pub gather-ended :

@@ -65,10 +65,6 @@ module _ (file : List ℕ) (by : By) (t : List ℕ) (chains : Chains file by t) 
     pub from-head : k < room by → (at : ℕ) → at ≡ head_in by t k → Walk (cells_of file) at
     from-head l at e = walk_start _ q only (cells_of file) at (e ∙ chains.linked.head k l)
 
-    -- from a link: those below a position of the key
-    pub from-link : (c : ℕ) → c < cells_of file → keyed (board_of file) by k c ≡ true → (at : ℕ) → at ≡ link_in by t c → Walk c at
-    from-link c l h at e = walk_start _ q only c at (e ∙ chains.linked.link c k l h)
-
     -- the step's cell, which `at` names, is on the chain
     pub on_chain : (n : ℕ) (at : Option Position) (cell : Position) → Walk n (entry_of at) → at ≡ Some cell → keyed (board_of file) by k cell.0 ≡ true
     on_chain n at cell w named = walk-member _ q only n cell.0 (rw named at w)

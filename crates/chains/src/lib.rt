@@ -41,9 +41,9 @@ pub fn named(entry: u16) -> Option<Position>
     Some(Position(entry.checked_sub(1)?))
 }
 
-// The readers below differ in their offset alone, and so in what they answer: each takes its own kind of
-// index and promises its own part of the table. A type for the two families, with an offset and a kind of
-// key for each, would be longer than the two calls of `held` that it saves.
+// The five readers below differ in their offset, the type of their index and the part of the table that
+// they promise: a trait for the two families, with both types and both promises, would be longer than
+// the two calls of `held` that it saves.
 
 // The highest driver of control cell k.
 pub fn head(table: &[u16; TABLE], k: Position) -> Option<Position>
