@@ -34,7 +34,7 @@ fn held(table: &[u16; TABLE], i: usize) -> u16
     table[i]
 }
 
-// The position that the entry of a head or a link names, if it names one.
+// The position that the entry of a head or a link names, if it names one: it is 1 + the position.
 pub fn named(entry: u16) -> Option<Position>
     ensures { entry_of result ≡ entry }
 {
@@ -93,7 +93,8 @@ pub fn set_spare(table: &mut [u16; TABLE], i: usize, c: Position)
     table[NET_LINKS + i] = c.0;
 }
 
-// The link of a cell that drives nothing is free: `at` stands there from now on.
+// The link of a cell that drives nothing is free: `at` stands there from now on. It stays a number, since it
+// is an entry that its caller keeps as one (`nesting`, heads by number of drivers) and hands over unread.
 pub fn set_free_link(table: &mut [u16; TABLE], c: Position, at: u16)
     requires { c.0 < most_cells }
     ensures { table.new ≡ set table.old (links_from ControlCell + c.0) at }
@@ -134,5 +135,5 @@ pub(crate) fn count_driver(table: &mut [u16; TABLE], n: Net)
     requires { (n.0 < most_nets) × (count_in table.old n.0 < most_cells) }
     ensures { table.new ≡ one_more n.0 table.old }
 {
-    table[COUNTS + n.0 as usize] = table[COUNTS + n.0 as usize] + 1;
+    table[COUNTS + n.0 as usize] += 1;
 }
