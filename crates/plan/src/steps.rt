@@ -65,8 +65,8 @@ pub(crate) fn round(plan: Plan) -> usize
 {
     let mut old = base_values(plan, 0);
     let mut n = 0;
-    for j in 0..plan.wide {
-        let new = base_values(plan, j + 1);
+    for i in 0..plan.wide {
+        let new = base_values(plan, i + 1);
         n += 1 + inserted_between(old, new, plan.limit);
         old = new;
     }
