@@ -1,26 +1,23 @@
 -- The groups' rows, row by row, in a buffer.
 use Prim.Native.Nat.{ℕ, zero, suc, ◌+◌, ◌*◌, ◌-◌, ◌≤◌, ◌<◌}
-use mathlib.Core.Path.{◌≡◌, refl, sym, ◌∙◌, ap, ap₂}
+use mathlib.Core.Path.{◌≡◌, sym, ◌∙◌, ap, ap₂}
 use mathlib.Core.Bool.{Bool}
-use mathlib.Core.List.{List, ◌++◌}
+use mathlib.Core.List.{List}
 use native.Mathlib.Nat.{suc-mul, zero-mul, le_trans, mul-le-mul_left, mul-le-mul_right}
 use native.Mathlib.Numerals.{sub-one}
 use native.Mathlib.Omega.{arith}
-use lib.ListN.{length, length-append, length-drop}
+use lib.ListN.{length, length-append}
 use Rattle.base.specs.Digits.{ceil}
 use Rattle.base.proofs.BoolLaws.{fails-if}
 use Rattle.rules.specs.Answers.{over}
 use Rattle.rules.specs.Rows.{row_bytes, row_of}
 use Rattle.rules.specs.File.{Board, board_of, cells_of, most_number, number_values}
-use Rattle.rules.specs.Groups.{selected, earlier, on_in, group_row, group_rows}
+use Rattle.rules.specs.Groups.{on_in, group_row, group_rows}
 use Rattle.rules.specs.Refusals.{judge, board_checks, most_cells, most_bytes}
 use Rattle.rules.specs.declared.Verdict.TheVariants.{Accepted}
 use Rattle.rules.proofs.RowLaws.{row-length}
 use Rattle.rules.proofs.Selection.{sound}
 use Rattle.rules.proofs.GroupsDriven.{on-cell}
-use Rattle.words.specs.Sets.{either}
-use Rattle.select.specs.Turns.{listed}
-use Rattle.select.proofs.Passing.{earlier_more, group-is}
 use Rattle.rows.specs.Room.{placed, Cells}
 use Rattle.rows.proofs.PlacedLaws.{over-more}
 

@@ -1,13 +1,12 @@
 -- Row by row, with the cells of the groups so far.
-use Prim.Native.Nat.{ℕ, zero, suc, ◌+◌, ◌*◌, ◌-◌, ◌<◌, ◌≤◌}
+use Prim.Native.Nat.{ℕ, zero, suc, ◌+◌, ◌*◌, ◌-◌, ◌<◌}
 use mathlib.Core.Path.{◌≡◌, refl, sym, ◌∙◌, ap}
 use native.Mathlib.Nat.{add-sub_cancel, zero-mul, suc-mul}
 use native.Mathlib.Numerals.{sub-one}
 use native.Mathlib.Omega.{arith}
 use Rattle.rules.specs.Answers.{over}
 use Rattle.rules.specs.File.{board_of}
-use Rattle.rules.specs.Groups.{group_rows, on_in}
-use Rattle.words.specs.Sets.{member}
+use Rattle.rules.specs.Groups.{group_rows}
 use Rattle.chains.proofs.Walks.{cells_fit}
 use Rattle.select.proofs.Passing.{earlier-none, earlier_more, board-size, group-is}
 use Rattle.rows.proofs.GroupRows.{written_next, on-own, row_fits}
@@ -28,7 +27,7 @@ row_bytes-bytes-requires c =
 
 pub loop-g-init : goal.loop-g-init
 unfolding group_rows
-loop-g-init c = record { placed = sym (zero-mul _); earlier = earlier-none _ _ c.empty-earlier.ensures; written = refl }
+loop-g-init c = record { reached = omega arith; placed = sym (zero-mul _); earlier = earlier-none _ _ c.empty-earlier.ensures; written = refl }
 
 pub write_row-requires-clause-room : goal.write_row-requires-clause-room
 write_row-requires-clause-room c =
@@ -57,6 +56,7 @@ loop-g-preserved c =
     let at : c.loop-g.at + c.row_bytes-bytes.result ≡ c.loop-g.g * c.row_bytes-bytes.result = next-place _ _ _ (omega arith) inv.placed in
     rw (add-sub_cancel c.loop-g.g 1)
     (record {
+      reached = omega arith;
       placed = at;
       earlier = earlier_more _ _ _ _ _ (omega arith) (c.selected-on.ensures _ inv.earlier) inv.earlier c.union-earlier.ensures;
       written = written (goal.at.loop-g-preserved c).After-write_row;
