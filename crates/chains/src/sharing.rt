@@ -8,7 +8,7 @@ ghost use Rattle.chains.specs.Chains.{Chains};
 ghost use Rattle.chains.specs.Sharing.{with_control, with_controls, with_sharers, partners_of};
 ghost use Rattle.cells.specs.Whole.{Whole};
 
-use crate::{TABLE, cell_named, head, link, net_head, net_link};
+use crate::{TABLE, head, link, net_head, net_link};
 use cells::{driver_at, net_at};
 use rules::{Driver, Net, Position};
 use words::{CellSet, NET_WORDS, NetSet, loops};
@@ -21,8 +21,7 @@ pub fn nets_of(file: &[u8], table: &[u16; TABLE], k: Position) -> NetSet
 {
     let mut words = [0u64; NET_WORDS];
     let mut at = head(table, k);
-    while 0 < at {
-        let c = cell_named(at);
+    while let Some(c) = at {
         let n = net_at(file, c);
         loops::add(&mut words, n.0 as usize);
         at = link(table, c);
@@ -54,8 +53,7 @@ fn add_controls(file: &[u8], table: &[u16; TABLE], n: Net, floor: Position, met:
 {
     let mut more = met;
     let mut at = net_head(table, n);
-    while 0 < at {
-        let c = cell_named(at);
+    while let Some(c) = at {
         more = add_control(file, c, floor, more);
         at = net_link(table, c);
     }
@@ -90,8 +88,7 @@ pub fn partners(file: &[u8], table: &[u16; TABLE], k: Position) -> CellSet
 {
     let mut set = CellSet::empty();
     let mut at = head(table, k);
-    while 0 < at {
-        let c = cell_named(at);
+    while let Some(c) = at {
         set = add_sharers(file, table, c, k, set);
         at = link(table, c);
     }

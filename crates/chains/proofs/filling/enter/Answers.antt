@@ -13,10 +13,6 @@ use Rattle.chains.proofs.filling.enter.Goals.{In-Of}
 told : (d : In-Of) → driver_at (board_of d.args.file.now) d.args.c.0 ≡ Of d.in-Of.k d.in-Of.n
 told d = driver-is _ _ _ d.driver_at-driver.ensures d.in-Of.is
 
-pub enter_other-requires : goal.enter_other-requires
-enter_other-requires c =
-    record { entered = c.requires.entered; c_bound = c.requires.c_bound; c_value = driver-is _ _ _ c.driver_at-driver.ensures c.in_default.is }
-
 pub splice-requires : goal.splice-requires
 splice-requires c =
     let f = driver-fits _ _ _ c.requires.entered c.requires.c_bound _ _ (told (goal.at.splice-requires c).In-Of) in
@@ -35,9 +31,3 @@ count_driver-requires c =
 pub returns : goal.returns
 returns c =
     rw (c.count_driver.ensures, c.splice-2.ensures, c.splice.ensures) (enter-driver _ _ _ c.requires.entered c.requires.c_bound _ _ (told (goal.at.returns c).In-Of))
-
-pub driver_at-driver-requires : goal.driver_at-driver-requires
-driver_at-driver-requires c = record { checked = c.requires.entered.by-net.checked; below = c.requires.c_bound }
-
-pub returns-in_default : goal.returns-in_default
-returns-in_default c = c.enter_other.ensures

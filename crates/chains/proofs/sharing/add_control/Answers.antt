@@ -27,6 +27,3 @@ pub returns : goal.returns
 returns c =
     let l = c.if-k-floor.false in
     c.with.ensures ∙ one-control _ _ _ _ _ (told (goal.at.returns c).In-Of) _ (omega arith)
-
-pub driver_at-driver-requires : goal.driver_at-driver-requires
-driver_at-driver-requires c = c.requires

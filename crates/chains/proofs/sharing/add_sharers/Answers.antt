@@ -12,12 +12,8 @@ use Rattle.chains.proofs.sharing.add_sharers.Goals.{In-Of}
 told : (d : In-Of) → driver_at (board_of d.args.file.now) d.args.c.0 ≡ Of d.in-Of.field-0 d.in-Of.n
 told d = driver-is _ _ _ d.driver_at-driver.ensures d.in-Of.is
 
-pub add_controls-requires : goal.add_controls-requires
-add_controls-requires c =
-    record { chains = c.requires.chains; n_bound = net-below _ c.requires.chains.checked _ c.requires.c_bound _ _ (told c) }
-
-pub driver_at-driver-requires : goal.driver_at-driver-requires
-driver_at-driver-requires c = record { checked = c.requires.chains.checked; below = c.requires.c_bound }
+pub add_controls-requires-clause-n_bound : goal.add_controls-requires-clause-n_bound
+add_controls-requires-clause-n_bound c = net-below _ c.requires.chains.checked _ c.requires.c_bound _ _ (told c)
 
 pub returns-in_default : goal.returns-in_default
 returns-in_default c = no-sharers _ _ _ (driver-is _ _ _ c.driver_at-driver.ensures c.in_default.is) _
