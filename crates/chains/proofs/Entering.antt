@@ -4,12 +4,11 @@ use Prim.Native.Nat.{ℕ, ◌+◌, ◌<◌, ◌≤◌}
 use mathlib.Core.Path.{◌≡◌, refl, ◌∙◌}
 use mathlib.Core.List.{List}
 use native.Mathlib.Omega.{arith}
-use Rattle.std.specs.Prelude.{Some, None}
 use lib.ListN.{length, set, length-set}
 use lib.Seq.{get_or-set_other}
 use Rattle.base.specs.Counting.{count}
 use Rattle.rules.specs.File.{Board, board_of, cells_of}
-use Rattle.rules.specs.Drivers.{driver_at}
+use Rattle.rules.specs.Drivers.{driver_at, Of}
 use Rattle.rules.specs.Refusals.{judge, file_checks, most_cells, most_nets, Accepted}
 use Rattle.rules.specs.declared.Driver.{Driver}
 use Rattle.std.specs.Prelude.{Option, Some, None}
@@ -27,22 +26,22 @@ use Rattle.chains.proofs.CountLaws.{counted_same, counted_skip, counted-add, cou
 
 module _ (b : Board) (c : ℕ) where
   -- the control cell's chains go by drivers alone
-  no-control : driver_at b c ≡ driver.Nothing → key_at b ControlCell c ≡ None
+  no-control : driver_at b c ≡ None → key_at b ControlCell c ≡ None
   unfolding key_at
   no-control e = rw (no-driver b c e)
 
   -- a driver's keys are its control cell and its net
-  keys : (k : Position) (n : Net) → driver_at b c ≡ driver.Of k n → (key_at b ControlCell c ≡ Some k.0) × (key_at b NetOf c ≡ Some n.0)
+  keys : (k : Position) (n : Net) → driver_at b c ≡ Of k n → (key_at b ControlCell c ≡ Some k.0) × (key_at b NetOf c ≡ Some n.0)
   unfolding key_at
   keys k n e = let d = is-driver b c k n e in (rw (d.0, d.1), rw (d.0, d.2))
 
   -- what is no output is no driver
-  no_output : key_at b NetOf c ≡ None → driver_at b c ≡ driver.Nothing
+  no_output : key_at b NetOf c ≡ None → driver_at b c ≡ None
   no_output e = go (driver_at b c) refl
     where
-      go : (d : Driver) → driver_at b c ≡ d → driver_at b c ≡ driver.Nothing
-      go driver.Nothing q = q
-      go (driver.Of k n) q = cc ((keys k n q).1)
+      go : (d : Option Driver) → driver_at b c ≡ d → driver_at b c ≡ None
+      go None q = q
+      go (Some d) q = cc ((keys d.control d.net q).1)
 
 -- a blank table is that of no position
 pub enter-first : (file : List ℕ) → judge (file_checks file) ≡ Accepted → (t : List ℕ) → Blank t → Entered file 0 t
@@ -135,7 +134,7 @@ module _ (file : List ℕ) (c : ℕ) (t : List ℕ) (so_far : Entered file c t) 
     pub output-fits : (c < most_cells) × (n < most_nets)
     output-fits = (position-fits, net-fits)
 
-    pub enter-output : driver_at (board_of file) c ≡ driver.Nothing → Entered file (c + 1) (netted n)
+    pub enter-output : driver_at (board_of file) c ≡ None → Entered file (c + 1) (netted n)
     enter-output d =
         record {
           long = netted-long;
@@ -145,7 +144,7 @@ module _ (file : List ℕ) (c : ℕ) (t : List ℕ) (so_far : Entered file c t) 
         }
 
   -- linked by its net and its control cell, and counted
-  module _ (k : Position) (n : Net) (d : driver_at (board_of file) c ≡ driver.Of k n) where
+  module _ (k : Position) (n : Net) (d : driver_at (board_of file) c ≡ Of k n) where
     control-fits : k.0 < room ControlCell
     control-fits = key_below file so_far.by-net.checked ControlCell c k.0 l (keys (board_of file) c k n d).0
 
@@ -204,7 +203,7 @@ module _ (file t : List ℕ) (k v : ℕ) (h : Filled file t) (l : k < cells_of f
   free-fits : k < most_cells
   free-fits = let f = (laid file (shaped file h.by-net.checked)).cells.at_most in omega arith
 
-  pub filled-free : driver_at (board_of file) k ≡ driver.Nothing → v ≤ k → Filled file (set t (links_from ControlCell + k) v)
+  pub filled-free : driver_at (board_of file) k ≡ None → v ≤ k → Filled file (set t (links_from ControlCell + k) v)
   filled-free d no-higher =
       let position-fits = free-fits in
       let fits : links_from ControlCell + k < length t = (let q = h.long in omega arith) in

@@ -6,7 +6,7 @@ ghost use Rattle.chains.specs.Filling.{Entered, Fillable, Filled};
 
 use crate::{LINKS, NET_LINKS, TABLE, count_driver, net_key, splice};
 use cells::driver_at;
-use rules::{Driver, Position};
+use rules::Position;
 
 // The same for a cell that drives nothing for a control cell: only an output is linked, by its net.
 fn enter_other(file: &[u8], table: &mut [u16; TABLE], c: Position)
@@ -28,13 +28,12 @@ fn enter(file: &[u8], table: &mut [u16; TABLE], c: Position)
     requires c_bound { c.0 < cells_of file.now }
     ensures { Entered file.now (c.0 + 1) table.new }
 {
-    let driver = driver_at(file, c);
-    let Driver::Of(k, n) = driver else {
+    let Some(driver) = driver_at(file, c) else {
         return enter_other(file, table, c);
     };
-    splice(table, NET_LINKS, c, n.0 as usize);
-    splice(table, LINKS, c, k.0 as usize);
-    count_driver(table, n);
+    splice(table, NET_LINKS, c, driver.net.0 as usize);
+    splice(table, LINKS, c, driver.control.0 as usize);
+    count_driver(table, driver.net);
 }
 
 // The chains and numbers of a whole file, in a table that holds nothing yet.

@@ -10,7 +10,7 @@ ghost use Rattle.cells.specs.Whole.{Whole};
 
 use crate::{TABLE, head, link, net_head, net_link};
 use cells::{driver_at, net_at};
-use rules::{Driver, Net, Position};
+use rules::{Net, Position};
 use words::{CellSet, NET_WORDS, NetSet, loops};
 
 // The net set of control cell k, gathered where it stands.
@@ -35,14 +35,13 @@ fn add_control(file: &[u8], c: Position, floor: Position, set: CellSet) -> CellS
     requires { Whole file.now c.0 }
     ensures { member result.words ≡ with_control (board_of file.now) floor.0 c.0 (member set.words) }
 {
-    let driver = driver_at(file, c);
-    let Driver::Of(k, _) = driver else {
+    let Some(driver) = driver_at(file, c) else {
         return set;
     };
-    if k.0 <= floor.0 {
+    if driver.control.0 <= floor.0 {
         return set;
     }
-    set.with(k)
+    set.with(driver.control)
 }
 
 // The set with the control cells of net n above floor besides.
@@ -72,11 +71,10 @@ fn add_sharers(
     requires c_bound { c.0 < cells_of file.now }
     ensures { member result.words ≡ with_sharers (board_of file.now) floor.0 c.0 (member met.words) }
 {
-    let driver = driver_at(file, c);
-    let Driver::Of(_, n) = driver else {
+    let Some(driver) = driver_at(file, c) else {
         return met;
     };
-    add_controls(file, table, n, floor, met)
+    add_controls(file, table, driver.net, floor, met)
 }
 
 // The control cells above k that share a net with it.
