@@ -10,11 +10,6 @@ use Rattle.blocks.specs.Reading.{sums_check}
 use Rattle.blocks.specs.Places.{Headed}
 use Rattle.blocks.proofs.Heading.{headed-first}
 
--- what a `?` gives on where it stops: the refusal that it met
-pub given_on : {T : Type 0} (v : Result T Refusal) {r : Refusal} → IsErrAnd v (λ s. s ≡ r) → v ≡ Err r
-given_on (Ok x) e = absurd e
-given_on (Err s) e = rw e
-
 -- the first test of a header's chain
 first_of : (a b c d e f g h : Bool) → (a && b && c && d && e && f && g && h) ≡ true → a ≡ true
 first_of true b c d e f g h q = refl

@@ -5,7 +5,7 @@
 
 ghost use Rattle.std.specs.Prelude.{◌≤◌, length, IfOk};
 
-use rules::{Refusal, Verdict};
+use rules::Refusal;
 use std::io;
 use std::io::Read;
 
@@ -21,9 +21,8 @@ fn say(rt: &impl Print, refusal: Refusal) -> io::Result<()> {
 
 // Judges the file and says so.
 fn answer(rt: &impl Print, file: &[u8]) -> io::Result<()> {
-    let verdict = board::verdict::verdict(file);
-    match verdict {
-        Verdict::Accepted => say(
+    match board::verdict::verdict(file) {
+        Ok(()) => say(
             rt,
             Refusal {
                 number: 0,
@@ -31,7 +30,7 @@ fn answer(rt: &impl Print, file: &[u8]) -> io::Result<()> {
                 second: 0,
             },
         ),
-        Verdict::Refused(refusal) => say(rt, refusal),
+        Err(refusal) => say(rt, refusal),
     }
 }
 

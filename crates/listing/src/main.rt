@@ -17,7 +17,7 @@ use plan::boards::{admit, plan_of};
 use plan::steps::{Plan, total};
 use rows::bytes::row_bytes;
 use rows::vectors::write_vector;
-use rules::{Refusal, Verdict};
+use rules::Refusal;
 use std::fmt::InlineText;
 use std::io;
 use std::io::Read;
@@ -162,10 +162,9 @@ fn say_refusal(rt: &impl Print, refusal: Refusal) -> io::Result<()> {
 fn list(rt: &impl Print, file: &[u8], table: &mut [u16; TABLE]) -> io::Result<()>
     requires { Blank table.old }
 {
-    let admitted = admit(file, table);
-    match admitted {
-        Verdict::Accepted => say_vectors(rt, file, table),
-        Verdict::Refused(refusal) => say_refusal(rt, refusal),
+    match admit(file, table) {
+        Ok(()) => say_vectors(rt, file, table),
+        Err(refusal) => say_refusal(rt, refusal),
     }
 }
 

@@ -46,10 +46,6 @@ pub fn admit(file: &[u8], table: &mut [u16; TABLE]) -> Verdict
     ensures value { result ≡ judge (count_checks file.now) }
     ensures admitted { judge (count_checks file.now) ≡ Accepted → Admitted file.now table.new }
 {
-    let board = examine(file, table);
-    let Verdict::Accepted = board else {
-        return board;
-    };
-    let plan = plan_of(file, table);
-    count_verdict(plan)
+    examine(file, table)?;
+    count_verdict(plan_of(file, table))
 }

@@ -5,6 +5,7 @@ ghost use Rattle.std.specs.Prelude.{◌≡◌};
 ghost use Rattle.rules.specs.Answers.{count_answer, count_outcome, groups_answer, groups_outcome, vector_answer, vector_outcome, marks_answer, marks_outcome};
 
 use chains::TABLE;
+use packing::answer_bits;
 
 mod packing;
 mod questions;
@@ -14,7 +15,7 @@ mod questions;
 pub extern "C" fn count(file: &[u8]) -> u64
     ensures { result ≡ (count_outcome (count_answer file.now)).bits }
 {
-    questions::ask_count(file)
+    answer_bits(questions::ask_count(file))
 }
 
 // The control cells that are on in each group: a row for each.
@@ -24,7 +25,7 @@ pub extern "C" fn groups(file: &[u8], out: &mut [u8]) -> u64
     ensures out_after { out.new ≡ (groups_outcome (groups_answer file.now out.old)).buffer }
 {
     let mut table = [0u16; TABLE];
-    questions::ask_groups(file, out, &mut table)
+    answer_bits(questions::ask_groups(file, out, &mut table))
 }
 
 // One vector: its group, and its row.
@@ -34,7 +35,7 @@ pub extern "C" fn vector(file: &[u8], number: u64, out: &mut [u8]) -> u64
     ensures out_after { out.new ≡ (vector_outcome (vector_answer file.now number out.old)).buffer }
 {
     let mut table = [0u16; TABLE];
-    questions::ask_vector(file, number, out, &mut table)
+    answer_bits(questions::ask_vector(file, number, out, &mut table))
 }
 
 // What a capture says of each net: a mark byte for each, and how many there are of which kind.
@@ -43,5 +44,5 @@ pub extern "C" fn marks(file: &[u8], capture: &[u8], out: &mut [u8]) -> u64
     ensures value { result ≡ (marks_outcome (marks_answer file.now capture.now out.old)).bits }
     ensures out_after { out.new ≡ (marks_outcome (marks_answer file.now capture.now out.old)).buffer }
 {
-    questions::ask_marks(file, capture, out)
+    answer_bits(questions::ask_marks(file, capture, out))
 }

@@ -1,9 +1,10 @@
 // The numbers of an answer in 64 bits: the refusal's number in bits 0 to 7, and from bit 8 on what it returns.
 ghost use Rattle.std.specs.Prelude.{◌≡◌, ◌∷◌, [], ◌≤◌};
-ghost use Rattle.rules.specs.Answers.{pack, packed, field};
+ghost use Rattle.rules.specs.Answers.{pack, field};
 ghost use Rattle.rules.specs.File.{most_number};
+ghost use Rattle.rigcandle.specs.Asking.{answer_bits};
 
-use rules::{Refusal, Verdict};
+use rules::Refusal;
 
 // A field of 8 bits, and one of 16, moves what stands above it by so much.
 const EIGHT_BITS: u64 = 1 << 8;
@@ -19,14 +20,11 @@ fn refusal_bits(refusal: Refusal) -> u64
     refusal.number as u64 + EIGHT_BITS * (place + SIXTEEN_BITS * second)
 }
 
-// A verdict that refuses, as the answer's bits.
-pub(crate) fn verdict_bits(verdict: Verdict) -> u64
-    ensures { result ≡ packed verdict [] }
+// What a question answers: the bits of what it returns, or its refusal's.
+pub(crate) fn answer_bits(answer: Result<u64, Refusal>) -> u64
+    ensures { result ≡ answer_bits answer }
 {
-    match verdict {
-        Verdict::Accepted => 0,
-        Verdict::Refused(refusal) => refusal_bits(refusal),
-    }
+    answer.unwrap_or_else(refusal_bits)
 }
 
 // One number of 8 bits: G, or a vector's group.

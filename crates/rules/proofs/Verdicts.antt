@@ -8,7 +8,7 @@ use mathlib.Core.List.{List, [], ◌∷◌, ◌++◌}
 use native.Mathlib.Omega.{arith}
 use borrow.Author.Tests.{lt-ltb, le-ltb}
 use lib.Dec.{eqb}
-use Rattle.std.specs.Prelude.{Ok, Err}
+use Rattle.std.specs.Prelude.{Result, Ok, Err, IsErrAnd}
 use Rattle.base.specs.Tests.{least}
 use Rattle.base.proofs.BoolLaws.{order}
 use Rattle.base.proofs.TestLaws.{Lowest, least-lowest, least_at, least-none}
@@ -40,6 +40,11 @@ pub data First (r : Refusal) : List Check → Type 0 where
 -- a verdict is one or the other
 pub never : (r : Refusal) → Refused r ≡ Accepted → ⊥
 never r e = let z : ◌≡◌ {A = ℕ} 0 1 = cc in omega arith
+
+-- what a `?` gives on where it stops: the refusal that it met
+pub given_on : {T : Type 0} (v : Result T Refusal) {r : Refusal} → IsErrAnd v (λ s. s ≡ r) → v ≡ Err r
+given_on (Ok x) e = absurd e
+given_on (Err s) e = rw e
 
 -- the refusal of a verdict, or another where it has none
 refusal_of : Refusal → Verdict → Refusal

@@ -1,8 +1,8 @@
 -- `blocks::header_verdict` meets its contract: where refusal 3 passes, the list goes on to refusal 4.
 use Rattle.std.proofs.Common.{refl, ◌∙◌}
-use Rattle.rules.proofs.Verdicts.{stopped, passed}
+use Rattle.rules.proofs.Verdicts.{given_on, stopped, passed}
 use Rattle.blocks.proofs.Lengths.{right-length}
-use Rattle.blocks.proofs.Shaping.{given_on, row-three}
+use Rattle.blocks.proofs.Shaping.{row-three}
 use Rattle.blocks.proofs.header_verdict.Goals as goal
 
 pub returns-in_err-once : goal.returns-in_err-once

@@ -2,12 +2,12 @@
 use Rattle.std.proofs.Common.{◌+◌, [], arith}
 use Rattle.base.proofs.TestLaws.{search-next}
 use Rattle.rules.specs.File.{blocks_in, cells_of}
+use Rattle.rules.proofs.Verdicts.{given_on}
 use Rattle.rules.proofs.CheckLaws.{found, ended}
 use Rattle.blocks.specs.Reading.{RightTo}
 use Rattle.blocks.proofs.Heading.{head-right, right-all, right-one-more, right-no-more}
 use Rattle.blocks.proofs.Lengths.{right-length}
 use Rattle.blocks.proofs.ReadingLaws.{held, refused}
-use Rattle.blocks.proofs.Shaping.{given_on}
 use Rattle.blocks.proofs.read_blocks.Goals as goal
 use Rattle.blocks.proofs.read_blocks.Goals.{Joined-heads-i, then-heads-i+then-head_laid, else-heads-i, else-heads-i-via-then-heads-i+else-head_laid, else-heads-i-via-else-heads-i}
 

@@ -1,10 +1,10 @@
 -- The checks in a row: a refusal stops it, an acceptance goes on, and what the blocks hold of their heads goes along.
 use Rattle.std.proofs.Common.{sym, refl, ◌∙◌}
 use Rattle.rules.proofs.CheckLaws.{once-accepted}
-use Rattle.rules.proofs.Verdicts.{stopped, passed}
+use Rattle.rules.proofs.Verdicts.{given_on, stopped, passed}
 use Rattle.blocks.specs.Places.{Headed}
 use Rattle.blocks.proofs.Lengths.{right-length}
-use Rattle.blocks.proofs.Shaping.{given_on, row-length, row-sums, row-header, heads-positive}
+use Rattle.blocks.proofs.Shaping.{row-length, row-sums, row-header, heads-positive}
 use Rattle.blocks.proofs.shape_verdict.Goals as goal
 use Rattle.blocks.proofs.shape_verdict.Goals.{In_ok-heads}
 
