@@ -130,20 +130,6 @@ fn mark_of(tests: Tests, n: Net) -> Mark
     mark_for(!seen, failed, twice)
 }
 
-// The table's byte for a mark. A match and no `From`: the mark is crate rules', where its `From` would have to stand. And no `mark as u8`,
-// which would leave the table to the order in which rules declares the marks.
-#[tactic(auto, unfolding(rules::specs::Marks::byte_of))]
-fn byte_of(mark: Mark) -> u8
-    ensures { result ≡ byte_of mark }
-{
-    match mark {
-        Mark::Pass => 0,
-        Mark::Fail => 1,
-        Mark::NotSeen => 2,
-        Mark::ReadTwice => 3,
-    }
-}
-
 // The counts with one mark more.
 #[tactic(auto, unfolding(rules::specs::Marks::byte_of, crate::specs::Judging::one_more))]
 fn count_mark(counts: Counts, mark: Mark) -> Counts
@@ -175,7 +161,7 @@ pub(crate) fn write_marks(out: &mut [u8], nets: usize, tests: Tests) -> Counts
     let mut counts = Counts::default();
     for (n, byte) in out[..nets].iter_mut().enumerate() {
         let mark = mark_of(tests, Net(n as u16));
-        *byte = byte_of(mark);
+        *byte = u8::from(mark);
         counts = count_mark(counts, mark);
     }
     counts
