@@ -3,7 +3,6 @@ use Rattle.std.specs.Prelude.{◌≡◌, ℕ, ◌+◌, ◌*◌, ◌<◌, ◌≤�
 use Rattle.rules.specs.File.{block_size, blocks_in, cells_of, most_number}
 use Rattle.rules.specs.Refusals.{wrong_length}
 use Rattle.blocks.specs.Reading.{RightTo, head_right_at}
-use Rattle.blocks.specs.declared.Heads.{Heads}
 
 -- block i is whole in the file, and i is a place
 pub record Whole (file : List ℕ) (i : ℕ) : Type 0 where
@@ -11,9 +10,9 @@ pub record Whole (file : List ℕ) (i : ℕ) : Type 0 where
   pub place-bounded : i ≤ most_number
 
 -- refusal 1 has passed, and so many heads are right, from block 0 on
-pub record Headed (file : List ℕ) (heads : Heads) : Type 0 where
+pub record Headed (file : List ℕ) (heads : ℕ) : Type 0 where
   pub right : wrong_length file ≡ false
-  pub heads-are : RightTo file (blocks_in file) heads.right
+  pub heads-are : RightTo file (blocks_in file) heads
 
 -- block i is a whole one of the file, which says so many cells; where it is no header, its head is right or is not
 pub record AnyBlock (file : List ℕ) (cells i : ℕ) (headed : Bool) : Type 0 where
@@ -29,7 +28,7 @@ pub record CellBlock (file : List ℕ) (cells i : ℕ) (headed : Bool) : Type 0 
   pub head : headed ≡ head_right_at file i
 
 -- refusals 1 to 3 have passed, and the file says so many cells
-pub record Layout (file : List ℕ) (cells : ℕ) (heads : Heads) : Type 0 where
+pub record Layout (file : List ℕ) (cells : ℕ) (heads : ℕ) : Type 0 where
   pub headed : Headed file heads
-  pub header : 0 < heads.right
+  pub header : 0 < heads
   pub told : cells ≡ cells_of file

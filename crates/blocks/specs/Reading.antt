@@ -1,13 +1,10 @@
 -- What reading a block of a board file gives, and the sizes in its header. Assumes nothing.
-use Rattle.std.specs.Prelude.{◌≡◌, ℕ, zero, suc, ◌+◌, ◌<◌, ◌≤◌, Bool, true, false, cond, not, ◌&&◌, List, [], ◌∷◌, ◌==◌}
+use Rattle.std.specs.Prelude.{Result, Ok, Err, ◌≡◌, ℕ, zero, suc, ◌+◌, ◌<◌, ◌≤◌, Bool, true, false, cond, not, ◌&&◌, List, [], ◌∷◌, ◌==◌}
 use Rattle.rules.specs.File.{byte_at, number_at, block_at, blocks_in, records_in, sums_right, cells_of, nets_of, limit_of}
-use Rattle.rules.specs.Refusals.{Check, judge, each, Verdict, Accepted, Refused as RefusedBy}
+use Rattle.rules.specs.declared.Refusal.{Refusal}
+use Rattle.rules.specs.Refusals.{Check, judge, each, numbered, Accepted}
 use Rattle.blocks.specs.declared.Head.{Head}
 use Rattle.blocks.specs.declared.Sizes.{Sizes}
-use Rattle.blocks.specs.declared.Block.{Block}
-use Rattle.blocks.specs.declared.Block.TheVariants.{Holds, Refused}
-use Rattle.blocks.specs.declared.Blocks.{Blocks}
-use Rattle.blocks.specs.declared.Blocks.TheVariants.{Hold, Refused as RefusedAll}
 
 -- "Bytes 0-1 are the block's number from 0, byte 2 its kind, byte 3 its record count", as read
 unfoldable pub head_of : List ℕ → ℕ → Head
@@ -33,35 +30,22 @@ pub record RightTo (file : List ℕ) (i right : ℕ) : Type 0 where
   pub lower : (j : ℕ) → j < right → head_right_at file j ≡ true
   pub stops : right < i → head_right_at file right ≡ false
 
-unfoldable pub more_right : ℕ → ℕ → Bool → ℕ
-more_right right i laid = cond (laid && right == i) (i + 1) right
-
 -- "Reading a block gives either its contents or a refusal with its place": refusal 2 where a sum is wrong
-unfoldable pub block_of : List ℕ → ℕ → Block
-block_of file i = cond (sums_right file i) (Holds (head_of file i)) (Refused (record { number = 2; place = i; second = 0 }))
-
--- reading all blocks stops at one that is refused
-unfoldable pub stopped_at : Block → Blocks
-stopped_at (Holds head) = Hold (record { right = 0 })
-stopped_at (Refused refusal) = RefusedAll refusal
+unfoldable pub block_of : List ℕ → ℕ → Result Head Refusal
+block_of file i = cond (sums_right file i) (Ok (head_of file i)) (Err (numbered 2 i))
 
 -- check 2, and what reading all blocks gives: how many of their heads are right, or the refusal that check 2 gives
 abbrev pub sums_check : List ℕ → List Check
 sums_check file = each 2 (blocks_in file) (λ i. not (sums_right file i)) ∷ []
 
-abbrev pub BlocksOf : List ℕ → Blocks → Type 0
-BlocksOf file (Hold heads) = (judge (sums_check file) ≡ Accepted) × RightTo file (blocks_in file) heads.right
-BlocksOf file (RefusedAll refusal) = judge (sums_check file) ≡ RefusedBy refusal
+abbrev pub BlocksOf : List ℕ → Result ℕ Refusal → Type 0
+BlocksOf file (Ok heads) = (judge (sums_check file) ≡ Accepted) × RightTo file (blocks_in file) heads
+BlocksOf file (Err refusal) = judge (sums_check file) ≡ Err refusal
 
 -- "bytes 4-7 "BSIN"; byte 8 version 1; byte 9 zero"
 unfoldable pub signature_right : List ℕ → Bool
 signature_right file =
     (byte_at file 4 == 66) && byte_at file 5 == 83 && byte_at file 6 == 73 && byte_at file 7 == 78 && byte_at file 8 == 1 && byte_at file 9 == 0
-
--- the verdict that all blocks read are
-unfoldable pub verdict_of : Blocks → Verdict
-verdict_of (Hold heads) = Accepted
-verdict_of (RefusedAll refusal) = RefusedBy refusal
 
 -- C, N and SSOL as the header has them
 pub record SizesOf (file : List ℕ) (sizes : Sizes) : Type 0 where

@@ -6,16 +6,16 @@
 ghost use Rattle.std.specs.Prelude.{◌≡◌, ◌+◌, ◌*◌, ◌^◌, ◌<◌, ◌≤◌, false, not, [], ◌∷◌, length};
 ghost use Rattle.rules.specs.File.{block_size, block_records, head_size, number_at, most_number, sums_of, sums_right, zeros, header_right, records_in, cell_block_right, blocks_in};
 ghost use Rattle.rules.specs.Refusals.{judge, once, each, wrong_length, within, outside, blocks_for, block_wrong, shape_checks};
-ghost use Rattle.blocks.specs.Reading.{head_of, head_is, head_laid, more_right, block_of, stopped_at, BlocksOf, verdict_of, signature_right, SizesOf};
+ghost use Rattle.blocks.specs.Reading.{head_of, head_is, head_laid, block_of, BlocksOf, signature_right, SizesOf};
 ghost use Rattle.blocks.specs.Places.{Whole, Headed, CellBlock, AnyBlock, Layout};
 
-use rules::{BLOCK_RECORDS, BLOCK_SIZE, HEAD_SIZE, MOST_BLOCKS, MOST_LIMIT, RECORD_SIZE, SUMMED};
+use rules::{
+    BLOCK_RECORDS, BLOCK_SIZE, HEAD_SIZE, MOST_BLOCKS, MOST_LIMIT, RECORD_SIZE, Refusal, SUMMED,
+    Sums, Verdict,
+};
 
 // The two limits that later crates take from here.
 use rules::{MOST_CELLS, MOST_NETS};
-
-// The second byte of a number counts so often.
-const BYTE_VALUES: u16 = rules::BYTE_VALUES as u16;
 
 // The first four bytes of a block: its number, its kind, its record count.
 #[derive(Clone, Copy)]
@@ -23,26 +23,6 @@ pub struct Head {
     pub number: u16,
     pub kind: u8,
     pub records: u8,
-}
-
-// "Reading a block gives either its contents or a refusal with its place".
-#[derive(Clone, Copy)]
-pub enum Block {
-    Holds(Head),
-    Refused(rules::Refusal),
-}
-
-// What all blocks together leave for checks 3 and 5: so many, from block 0 on, have the head that the layout gives them.
-#[derive(Clone, Copy)]
-struct Heads {
-    right: usize,
-}
-
-// Reading all blocks gives either this or the refusal of the lowest block that is refused.
-#[derive(Clone, Copy)]
-enum Blocks {
-    Hold(Heads),
-    Refused(rules::Refusal),
 }
 
 // C, N and SSOL.
@@ -54,11 +34,12 @@ pub struct Sizes {
 }
 
 // The little-endian number in the two bytes from `at` on.
+#[tactic(auto, unfolding(rules::specs::File::number_at, rules::specs::File::byte_at))]
 pub fn pair(file: &[u8], at: usize) -> u16
     requires { at + 1 < length file.now }
     ensures { result ≡ number_at file.now at }
 {
-    file[at] as u16 + BYTE_VALUES * (file[at + 1] as u16)
+    u16::from_le_bytes([file[at], file[at + 1]])
 }
 
 // The same, for sums with lengths and positions.
@@ -66,25 +47,24 @@ fn number(file: &[u8], at: usize) -> usize
     requires { at + 1 < length file.now }
     ensures { result ≡ number_at file.now at }
 {
-    pair(file, at) as usize
+    usize::from(pair(file, at))
 }
 
 // The two sums of `bytes`, both wrapping at 65,536.
-fn sums(bytes: &[u8]) -> rules::Sums
+fn sums(bytes: &[u8]) -> Sums
     ensures { result ≡ sums_of bytes.now }
 {
     let mut a: u16 = 1;
     let mut b: u16 = 0;
-    let mut i = 0;
-    while i < bytes.len() {
-        a = std::num::wrapping_add_u16(a, bytes[i] as u16);
-        b = std::num::wrapping_add_u16(b, a);
-        i += 1;
+    for byte in bytes {
+        a = a.wrapping_add(u16::from(*byte));
+        b = b.wrapping_add(a);
     }
-    rules::Sums { a, b }
+    Sums { a, b }
 }
 
 // Block i holds its own two sums.
+#[tactic(auto, unfolding(rules::specs::File::sums_right, rules::specs::File::block_at))]
 fn sums_right(file: &[u8], i: usize) -> bool
     requires { block_size * (i + 1) ≤ length file.now }
     ensures { result ≡ sums_right file.now i }
@@ -92,7 +72,7 @@ fn sums_right(file: &[u8], i: usize) -> bool
     let from = BLOCK_SIZE * i;
     let to = from + SUMMED;
     let s = sums(&file[from..to]);
-    number(file, to) == s.a as usize && number(file, to + 2) == s.b as usize
+    pair(file, to) == s.a && pair(file, to + 2) == s.b
 }
 
 // The bytes from `from` up to `to`, and not `to` itself, are zero: all of them together have no digit. Without a way out of the loop the
@@ -102,44 +82,40 @@ fn zeros(file: &[u8], from: usize, to: usize) -> bool
     ensures { result ≡ zeros file.now from to }
 {
     let mut digits = 0;
-    let mut at = from;
-    while at < to {
-        digits = digits | file[at];
-        at += 1;
+    for at in from..to {
+        digits |= file[at];
     }
     digits == 0
 }
 
 // The head of block i, as it stands in the file.
+#[tactic(auto, unfolding(crate::specs::Reading::head_of, rules::specs::File::byte_at, rules::specs::File::block_at))]
 fn read_head(file: &[u8], i: usize) -> Head
     requires { block_size * i + head_size ≤ length file.now }
     ensures { result ≡ head_of file.now i }
 {
     let at = BLOCK_SIZE * i;
     Head {
-        number: number(file, at) as u16,
+        number: pair(file, at),
         kind: file[at + 2],
         records: file[at + 3],
     }
 }
 
-// Block i: its head, or refusal 2 where a sum is wrong.
-fn read(file: &[u8], i: usize) -> Block
+// "Reading a block gives either its contents or a refusal with its place": block i's head, or refusal 2 where a sum is wrong.
+#[tactic(auto, unfolding(crate::specs::Reading::block_of))]
+fn read(file: &[u8], i: usize) -> Result<Head, Refusal>
     requires { Whole file.now i }
     ensures { result ≡ block_of file.now i }
 {
-    if sums_right(file, i) {
-        Block::Holds(read_head(file, i))
-    } else {
-        Block::Refused(rules::Refusal {
-            number: 2,
-            place: i as u16,
-            second: 0,
-        })
+    if !sums_right(file, i) {
+        rules::refuse(2, i)?;
     }
+    Ok(read_head(file, i))
 }
 
 // A head of this number, this kind and this count.
+#[tactic(auto, unfolding(crate::specs::Reading::head_is))]
 fn head_is(head: Head, number: usize, kind: usize, records: usize) -> bool
     ensures { result ≡ head_is head number kind records }
 {
@@ -147,27 +123,25 @@ fn head_is(head: Head, number: usize, kind: usize, records: usize) -> bool
 }
 
 // Bytes 4 to 9 of the header: "BSIN", version 1, and a zero.
+#[tactic(auto, unfolding(crate::specs::Reading::signature_right, rules::specs::File::byte_at))]
 fn signature_right(file: &[u8]) -> bool
     requires { block_size ≤ length file.now }
     ensures { result ≡ signature_right file.now }
 {
-    file[4] == b'B'
-        && file[5] == b'S'
-        && file[6] == b'I'
-        && file[7] == b'N'
-        && file[8] == 1
-        && file[9] == 0
+    &file[4..10] == b"BSIN\x01\x00".as_slice()
 }
 
 // Block 0 is a header as the layout has it, whatever its C, N and SSOL.
-fn header_right(file: &[u8], heads: Heads) -> bool
+#[tactic(auto, unfolding(rules::specs::File::header_right, crate::specs::Reading::signature_right))]
+fn header_right(file: &[u8], heads: usize) -> bool
     requires { Headed file.now heads }
     ensures { result ≡ header_right file.now }
 {
-    0 < heads.right && signature_right(file) && zeros(file, 16, SUMMED)
+    0 < heads && signature_right(file) && zeros(file, 16, SUMMED)
 }
 
 // C, N and SSOL, as the header has them.
+#[tactic(auto, unfolding(rules::specs::File::cells_of, rules::specs::File::nets_of, rules::specs::File::limit_of))]
 pub fn read_sizes(file: &[u8]) -> Sizes
     requires { block_size ≤ length file.now }
     ensures { SizesOf file.now result }
@@ -180,19 +154,12 @@ pub fn read_sizes(file: &[u8]) -> Sizes
 }
 
 // How many records cell block i holds: each is full but the last.
+#[tactic(auto, unfolding(rules::specs::File::records_in))]
 fn records_in(cells: usize, i: usize) -> usize
     requires { (1 ≤ i) × (block_records * i < 2 ^ 64) }
     ensures { result ≡ records_in cells i }
 {
-    let before = BLOCK_RECORDS * (i - 1);
-    if cells <= before {
-        return 0;
-    }
-    if cells - before < BLOCK_RECORDS {
-        cells - before
-    } else {
-        BLOCK_RECORDS
-    }
+    BLOCK_RECORDS.min(cells.saturating_sub(BLOCK_RECORDS * (i - 1)))
 }
 
 // The head is the one that the layout gives block i of a file of so many cells: kind 1 and no records at 0,
@@ -207,47 +174,21 @@ fn head_laid(head: Head, cells: usize, i: usize) -> bool
     head_is(head, i, 2, records_in(cells, i))
 }
 
-// So many blocks, from 0 on, have their heads, after block i as well.
-fn more_right(right: usize, i: usize, laid: bool) -> usize
-    requires { i < most_number }
-    ensures { result ≡ more_right right i laid }
-{
-    if laid {
-        if right == i {
-            return i + 1;
-        }
-    }
-    right
-}
-
-// Reading all blocks stops at one that is refused.
-fn stopped(block: Block) -> Blocks
-    ensures { result ≡ stopped_at block }
-{
-    match block {
-        Block::Holds(_) => Blocks::Hold(Heads { right: 0 }),
-        Block::Refused(refusal) => Blocks::Refused(refusal),
-    }
-}
-
-// All blocks: how many heads are right from block 0 on, or refusal 2 of the lowest block whose sums are wrong.
-fn read_blocks(file: &[u8]) -> Blocks
+// All blocks: how many, from block 0 on, have the head that the layout gives them, for checks 3 and 5; or refusal 2 of the lowest
+// block whose sums are wrong.
+fn read_blocks(file: &[u8]) -> Result<usize, Refusal>
     requires { wrong_length file.now ≡ false }
     ensures { BlocksOf file.now result }
 {
     let cells = number(file, 10);
-    let blocks = file.len() / BLOCK_SIZE;
-    let mut right = 0;
-    let mut i = 0;
-    while i < blocks {
-        let block = read(file, i);
-        let Block::Holds(head) = block else {
-            return stopped(block);
-        };
-        right = more_right(right, i, head_laid(head, cells, i));
-        i += 1;
+    let mut heads = 0;
+    for i in 0..file.len() / BLOCK_SIZE {
+        let head = read(file, i)?;
+        if heads == i && head_laid(head, cells, i) {
+            heads += 1;
+        }
     }
-    Blocks::Hold(Heads { right })
+    Ok(heads)
 }
 
 // Cell block i is as the layout has it, outside its records: its head is, and the rest is zero.
@@ -262,11 +203,12 @@ fn cell_block_right(file: &[u8], cells: usize, i: usize, headed: bool) -> bool
 }
 
 // How many blocks a file of so many cells has.
+#[tactic(auto, unfolding(rules::specs::Refusals::blocks_for, base::specs::Digits::ceil))]
 fn blocks_for(cells: usize) -> usize
     requires { cells ≤ most_number }
     ensures { result ≡ blocks_for cells }
 {
-    1 + (cells + (BLOCK_RECORDS - 1)) / BLOCK_RECORDS
+    1 + cells.div_ceil(BLOCK_RECORDS)
 }
 
 // Refusal 5 applies at block i: the number of blocks at 0, else the block's layout.
@@ -281,6 +223,7 @@ fn block_wrong(file: &[u8], cells: usize, i: usize, headed: bool) -> bool
 }
 
 // Refusal 1 applies: the file is empty, not a multiple of 512, or over 14 blocks.
+#[tactic(auto, unfolding(rules::specs::Refusals::wrong_length))]
 fn wrong_length(file: &[u8]) -> bool
     ensures { result ≡ wrong_length file.now }
 {
@@ -289,13 +232,15 @@ fn wrong_length(file: &[u8]) -> bool
 }
 
 // n is from 1 to `most`.
+#[tactic(auto, unfolding(rules::specs::Refusals::within))]
 fn within(most: usize, n: usize) -> bool
     ensures { result ≡ within most n }
 {
-    1 <= n && n <= most
+    (1..=most).contains(&n)
 }
 
 // Refusal 4 applies: C, N or SSOL is outside its limits.
+#[tactic(auto, unfolding(rules::specs::Refusals::outside))]
 fn outside(file: &[u8]) -> bool
     requires { block_size ≤ length file.now }
     ensures { result ≡ outside file.now }
@@ -307,67 +252,42 @@ fn outside(file: &[u8]) -> bool
 }
 
 // Refusal 1, the file's length.
-fn length_verdict(file: &[u8]) -> rules::Verdict
+fn length_verdict(file: &[u8]) -> Verdict
     ensures { result ≡ judge (once 1 (wrong_length file.now) ∷ []) }
 {
     rules::once(1, wrong_length(file))
 }
 
-// Refusal 2, the blocks' sums: as reading them all says.
-fn sums_verdict(blocks: Blocks) -> rules::Verdict
-    ensures { result ≡ verdict_of blocks }
-{
-    match blocks {
-        Blocks::Hold(_) => rules::Verdict::Accepted,
-        Blocks::Refused(refusal) => rules::Verdict::Refused(refusal),
-    }
-}
-
 // Refusals 3 and 4, the header.
-fn header_verdict(file: &[u8], heads: Heads) -> rules::Verdict
+fn header_verdict(file: &[u8], heads: usize) -> Verdict
     requires { Headed file.now heads }
     ensures { result ≡ judge (once 3 (not (header_right file.now)) ∷ once 4 (outside file.now) ∷ []) }
 {
-    if header_right(file, heads) {
-        rules::once(4, outside(file))
-    } else {
-        rules::refuse(3, 0)
-    }
+    rules::once(3, !header_right(file, heads))?;
+    rules::once(4, outside(file))
 }
 
-// Refusal 5, the number of blocks and the layout of the cell blocks: the lowest block.
-fn layout_verdict(file: &[u8], cells: usize, heads: Heads) -> rules::Verdict
+// Refusal 5, the number of blocks and the layout of the cell blocks: the lowest block. Not `rules::each`: whether a block's head is right is
+// known only where all lower ones are.
+fn layout_verdict(file: &[u8], cells: usize, heads: usize) -> Verdict
     requires { Layout file.now cells heads }
     ensures { result ≡ judge (each 5 (blocks_in file.now) (block_wrong file.now) ∷ []) }
 {
-    let blocks = file.len() / BLOCK_SIZE;
-    let mut i = 0;
-    while i < blocks {
-        if block_wrong(file, cells, i, i < heads.right) {
+    for i in 0..file.len() / BLOCK_SIZE {
+        if block_wrong(file, cells, i, i < heads) {
             return rules::refuse(5, i);
         }
-        i += 1;
     }
-    rules::Verdict::Accepted
+    Ok(())
 }
 
 // Refusals 1 to 5, the file's shape, in their order. Each block is read once, by check 2; what it holds of its head goes on to
 // checks 3 and 5.
-pub fn shape_verdict(file: &[u8]) -> rules::Verdict
+pub fn shape_verdict(file: &[u8]) -> Verdict
     ensures { result ≡ judge (shape_checks file.now) }
 {
-    let length = length_verdict(file);
-    let rules::Verdict::Accepted = length else {
-        return length;
-    };
-    let blocks = read_blocks(file);
-    let Blocks::Hold(heads) = blocks else {
-        return sums_verdict(blocks);
-    };
-    let header = header_verdict(file, heads);
-    let rules::Verdict::Accepted = header else {
-        return header;
-    };
-    let sizes = read_sizes(file);
-    layout_verdict(file, sizes.cells, heads)
+    length_verdict(file)?;
+    let heads = read_blocks(file)?;
+    header_verdict(file, heads)?;
+    layout_verdict(file, read_sizes(file).cells, heads)
 }

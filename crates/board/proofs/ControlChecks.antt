@@ -26,10 +26,10 @@ use Rattle.chains.specs.Sharing.{partners_of}
 use Rattle.chains.proofs.Chaining.{keyed-control}
 use Rattle.chains.proofs.Walks.{cell-fits, none-keyed}
 use Rattle.chains.proofs.Brought.{own-net}
-use Rattle.board.specs.Controls.{is_crossing, pair_from, drivers_at, any_other}
-use Rattle.board.specs.declared.controls.Crossed.TheVariants.{Pair, NoPair}
+use Rattle.std.specs.Prelude.{Some, None}
+use Rattle.board.specs.Controls.{is_crossing, crosser_of, drivers_at, any_other}
 use Rattle.nesting.proofs.ControlNets.{idle-none, driven-below}
-use Rattle.board.proofs.PairLaws.{pair_found, pair-none}
+use Rattle.board.proofs.PairLaws.{crosser_found, crosser-none}
 
 -- a control cell that switches nothing crosses none
 crossed-idle : (b : Board) (i : ℕ) → ((c : ℕ) → c < b.size → keyed b ControlCell i c ≡ false) → crossed b i ≡ false
@@ -158,13 +158,13 @@ module _ (file : List ℕ) (ok : judge (file_checks file) ≡ Accepted) where
     lower : (x : ℕ) → x < j → crossed_by (board_of file) i x ≡ false
     lower x m = fails-if _ (λ t. let c = crossed-by (board_of file) i x t in clashes c.1 (v.none x c.0 m))
 
-    pub search-found : j < cells_of file → crosses (board_of file) i j ≡ true → Pair (record { 0 = i }) (record { 0 = j }) ≡ pair_from (board_of file) i
+    pub search-found : j < cells_of file → crosses (board_of file) i j ≡ true → Some (record { 0 = j }) ≡ crosser_of (board_of file) i
     unfolding board_of
-    search-found l t = pair_found (board_of file) i j l (by-crossing (board_of file) i j v.higher t) lower
+    search-found l t = crosser_found (board_of file) i j l (by-crossing (board_of file) i j v.higher t) lower
 
-    pub search-ended : cells_of file ≤ j → NoPair ≡ pair_from (board_of file) i
+    pub search-ended : cells_of file ≤ j → None ≡ crosser_of (board_of file) i
     unfolding board_of
-    search-ended l = pair-none (board_of file) i (crossed-none (board_of file) i (λ x u m t. clashes t (v.none x u (omega arith))))
+    search-ended l = crosser-none (board_of file) i (crossed-none (board_of file) i (λ x u m t. clashes t (v.none x u (omega arith))))
 
 -- the driver at c is one of control cell k, and its net has another number of drivers
 abbrev pub other : Board → ℕ → ℕ → ℕ → Bool
@@ -254,6 +254,6 @@ module _ (file t : List ℕ) (ch : Chains file ControlCell t) (j : ℕ) (l : j <
   pub idle-equal : unequal (board_of file) j ≡ false
   idle-equal = sym (unequal-empty file ch.checked j none)
 
-  pub idle-uncrossed : NoPair ≡ pair_from (board_of file) j
+  pub idle-uncrossed : None ≡ crosser_of (board_of file) j
   unfolding board_of
-  idle-uncrossed = pair-none (board_of file) j (crossed-idle (board_of file) j none)
+  idle-uncrossed = crosser-none (board_of file) j (crossed-idle (board_of file) j none)

@@ -1,6 +1,6 @@
 -- The control cells' checks over the tables that a whole file fills.
-use Rattle.std.specs.Prelude.{ℕ, Bool, true, false, cond, not, ◌&&◌, eqb}
-use Rattle.base.specs.Tests.{any, least}
+use Rattle.std.specs.Prelude.{Option, Some, None, ℕ, Bool, true, false, cond, not, ◌&&◌, eqb}
+use Rattle.base.specs.Tests.{any}
 use Rattle.rules.specs.File.{Board, net_of}
 use Rattle.rules.specs.Drivers.{controlled, drivers}
 use Rattle.rules.specs.Refusals.{crossed, crosser}
@@ -8,8 +8,7 @@ use Rattle.words.specs.declared.Relation.{Relation}
 use Rattle.words.specs.declared.Relation.TheVariants.{Apart, Inside, Holds, Equal, Crossing}
 use Rattle.chains.specs.Table.{ControlCell}
 use Rattle.chains.specs.Chains.{keyed}
-use Rattle.board.specs.declared.controls.Crossed.{Crossed}
-use Rattle.board.specs.declared.controls.Crossed.TheVariants.{Pair, NoPair}
+use Rattle.rules.specs.declared.Position.{Position}
 
 -- the one way that two net sets may not lie
 unfoldable pub is_crossing : Relation → Bool
@@ -19,13 +18,9 @@ is_crossing Holds = false
 is_crossing Equal = false
 is_crossing Crossing = true
 
--- what comparing control cell i with the higher ones finds: "the smallest larger position that crosses it" (request [1])
-unfoldable pub pair_from : Board → ℕ → Crossed
-pair_from b i = cond (crossed b i) (Pair (record { 0 = i }) (record { 0 = crosser b i })) NoPair
-
--- what comparing each with the higher ones finds: the pair of the lowest that has one; where none has, `least` is the size, which has none
-unfoldable pub lowest_pair : Board → Crossed
-lowest_pair b = pair_from b (least b.size (crossed b))
+-- what comparing control cell i with the higher ones finds: "the smallest larger position that crosses it" (request [1]), if one does
+unfoldable pub crosser_of : Board → ℕ → Option Position
+crosser_of b i = cond (crossed b i) (Some (record { 0 = crosser b i })) None
 
 -- how many controlled drivers the net of the driver at c has
 unfoldable pub drivers_at : Board → ℕ → ℕ

@@ -10,47 +10,36 @@ ghost use Rattle.chains.specs.Table.{ControlCell};
 ghost use Rattle.chains.specs.Chains.{Chains};
 ghost use Rattle.chains.specs.Counts.{Counted};
 ghost use Rattle.chains.specs.Filling.{Filled};
-ghost use Rattle.board.specs.Controls.{is_crossing, pair_from, lowest_pair, drivers_at, any_other};
+ghost use Rattle.board.specs.Controls.{is_crossing, crosser_of, drivers_at, any_other};
 
 use cells::net_at;
 use chains::sharing::{nets_of, partners};
-use chains::{TABLE, cell_named, drivers_on, head, link};
+use chains::{TABLE, drivers_on, head, link};
 use nesting::falling::{Nesting, tell_falling};
 use nesting::sound_upward;
 use rules::{Position, Verdict};
 use words::{NET_WORDS, NetSet, Relation};
 
-// What comparing the net sets of control cells finds: two that cross, the smaller position first, or none.
-#[derive(Clone, Copy)]
-pub enum Crossed {
-    Pair(Position, Position),
-    NoPair,
-}
-
 // Two net sets, read where they stand, meet and neither holds the other.
 fn sets_cross(a: &[u64; NET_WORDS], b: &[u64; NET_WORDS]) -> bool
     ensures { result ≡ is_crossing (relation_of (64 * net_words) (member a.now) (member b.now)) }
 {
-    let relation = NetSet::compare(a, b);
-    match relation {
-        Relation::Apart => false,
-        Relation::Inside => false,
-        Relation::Holds => false,
-        Relation::Equal => false,
+    match NetSet::compare(a, b) {
         Relation::Crossing => true,
+        Relation::Apart | Relation::Inside | Relation::Holds | Relation::Equal => false,
     }
 }
 
 // Control cell i's net set is compared with that of each higher one that shares a net with it: the first
-// that crosses it makes the pair. A control cell that switches nothing crosses none.
-fn pair_from(file: &[u8], table: &[u16; TABLE], cells: usize, i: Position) -> Crossed
+// that crosses it, if one does. A control cell that switches nothing crosses none.
+fn crosser_of(file: &[u8], table: &[u16; TABLE], cells: usize, i: Position) -> Option<Position>
     requires filled { Filled file.now table.now }
     requires cells_value { cells ≡ cells_of file.now }
     requires i_lt_cells { i.0 < cells }
-    ensures { result ≡ pair_from (board_of file.now) i.0 }
+    ensures { result ≡ crosser_of (board_of file.now) i.0 }
 {
-    if head(table, i) == 0 {
-        return Crossed::NoPair;
+    if head(table, i).is_none() {
+        return None;
     }
     let mine = nets_of(file, table, i);
     let met = partners(file, table, i);
@@ -59,41 +48,26 @@ fn pair_from(file: &[u8], table: &[u16; TABLE], cells: usize, i: Position) -> Cr
         let higher = Position(j as u16);
         let theirs = nets_of(file, table, higher);
         if sets_cross(&mine.words, &theirs.words) {
-            return Crossed::Pair(i, higher);
+            return Some(higher);
         }
         j = met.next(j + 1);
     }
-    Crossed::NoPair
+    None
 }
 
-// The pair of the lowest control cell that crosses a higher one.
-fn lowest_pair(file: &[u8], table: &[u16; TABLE], cells: usize) -> Crossed
-    requires filled { Filled file.now table.now }
-    requires cells_value { cells ≡ cells_of file.now }
-    ensures { result ≡ lowest_pair (board_of file.now) }
-{
-    let mut i = 0;
-    while i < cells {
-        let found = pair_from(file, table, cells, Position(i as u16));
-        let Crossed::NoPair = found else {
-            return found;
-        };
-        i += 1;
-    }
-    Crossed::NoPair
-}
-
-// Refusal 10: the pair that the comparison found.
+// Refusal 10: the lowest control cell that crosses a higher one, and the first of these.
 fn crossed_verdict(file: &[u8], table: &[u16; TABLE], cells: usize) -> Verdict
     requires filled { Filled file.now table.now }
     requires cells_value { cells ≡ cells_of file.now }
     ensures { result ≡ judge (crossing (board_of file.now) ∷ []) }
 {
-    let found = lowest_pair(file, table, cells);
-    match found {
-        Crossed::Pair(i, j) => rules::refuse_pair(10, i, j),
-        Crossed::NoPair => Verdict::Accepted,
+    for i in 0..cells {
+        let lower = Position(i as u16);
+        if let Some(higher) = crosser_of(file, table, cells, lower) {
+            return rules::refuse_pair(10, lower, higher);
+        }
     }
+    Ok(())
 }
 
 // How many controlled drivers the net of the driver at c has.
@@ -113,8 +87,7 @@ fn differs(file: &[u8], table: &[u16; TABLE], k: Position, first: usize) -> bool
     ensures { result ≡ any_other (board_of file.now) k.0 first }
 {
     let mut at = head(table, k);
-    while 0 < at {
-        let c = cell_named(at);
+    while let Some(c) = at {
         if drivers_at(file, table, c) != first {
             return true;
         }
@@ -130,11 +103,10 @@ fn differ(file: &[u8], table: &[u16; TABLE], k: Position) -> bool
     requires k_bound { k.0 < cells_of file.now }
     ensures { result ≡ unequal (board_of file.now) k.0 }
 {
-    let at = head(table, k);
-    if at == 0 {
+    let Some(highest) = head(table, k) else {
         return false;
-    }
-    let first = drivers_at(file, table, cell_named(at));
+    };
+    let first = drivers_at(file, table, highest);
     differs(file, table, k, first)
 }
 
@@ -144,14 +116,12 @@ fn unequal_verdict(file: &[u8], table: &[u16; TABLE], cells: usize) -> Verdict
     requires cells_value { cells ≡ cells_of file.now }
     ensures { result ≡ judge (each 11 (cells_of file.now) (unequal (board_of file.now)) ∷ []) }
 {
-    let mut k = 0;
-    while k < cells {
-        if differ(file, table, Position(k as u16)) {
-            return rules::refuse(11, k);
-        }
-        k += 1;
-    }
-    Verdict::Accepted
+    let unequal = |k: usize| -> bool
+        requires filled { Filled file.now table.now }
+        requires k_bound { k < cells_of file.now }
+        ensures { result ≡ unequal (board_of file.entry.now) k }
+    { differ(file, table, Position(k as u16)) };
+    rules::each(11, cells, unequal)
 }
 
 // Refusals 10 and 11, one after the other.
@@ -160,10 +130,7 @@ fn search(file: &[u8], table: &[u16; TABLE], cells: usize) -> Verdict
     requires cells_value { cells ≡ cells_of file.now }
     ensures { result ≡ judge (control_checks (board_of file.now)) }
 {
-    let crossed = crossed_verdict(file, table, cells);
-    let Verdict::Accepted = crossed else {
-        return crossed;
-    };
+    crossed_verdict(file, table, cells)?;
     unequal_verdict(file, table, cells)
 }
 
@@ -180,12 +147,11 @@ pub(crate) fn controls_verdict(
     ensures value { result ≡ judge (control_checks (board_of file.now)) }
 {
     if sound_upward(file, table, cells) {
-        return Verdict::Accepted;
+        return Ok(());
     }
-    let told = tell_falling(file, table, cells, nets);
-    match told {
+    match tell_falling(file, table, cells, nets) {
         Nesting::Unknown => search(file, table, cells),
         Nesting::Nested => unequal_verdict(file, table, cells),
-        Nesting::Sound => Verdict::Accepted,
+        Nesting::Sound => Ok(()),
     }
 }

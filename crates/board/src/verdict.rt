@@ -16,10 +16,7 @@ use rules::Verdict;
 fn file_verdict(file: &[u8]) -> Verdict
     ensures { result ≡ judge (file_checks file.now) }
 {
-    let shape = shape_verdict(file);
-    let Verdict::Accepted = shape else {
-        return shape;
-    };
+    shape_verdict(file)?;
     let sizes = read_sizes(file);
     records_verdict(file, sizes.cells, sizes.nets)
 }
@@ -31,16 +28,10 @@ pub fn examine(file: &[u8], table: &mut [u16; TABLE]) -> Verdict
     ensures value { result ≡ judge (board_checks file.now) }
     ensures filled { judge (board_checks file.now) ≡ Accepted → Filled file.now table.new }
 {
-    let ok = file_verdict(file);
-    let Verdict::Accepted = ok else {
-        return ok;
-    };
+    file_verdict(file)?;
     let sizes = read_sizes(file);
     fill_table(file, sizes.cells, table);
-    let nets = nets_verdict(file, table, sizes.nets);
-    let Verdict::Accepted = nets else {
-        return nets;
-    };
+    nets_verdict(file, table, sizes.nets)?;
     controls_verdict(file, table, sizes.cells, sizes.nets)
 }
 

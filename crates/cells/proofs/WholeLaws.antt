@@ -6,14 +6,17 @@ use mathlib.Core.List.{List}
 use borrow.Author.Tests.{ne_eqb}
 use native.Mathlib.Omega.{arith}
 use lib.ListN.{length}
-use Rattle.std.specs.Prelude.{Some, None}
+use Rattle.std.specs.Prelude.{None}
 use Rattle.rules.specs.File.{cells_of, record_at, record_size, table_of}
 use Rattle.rules.specs.Refusals.{most_cells}
 use Rattle.rules.proofs.Shape.{laid, shaped, record-inside}
-use Rattle.cells.specs.Whole.{Shaped, Whole}
+use Rattle.cells.specs.Whole.{Sized, Shaped, Whole}
 
 pub inside : (file : List ℕ) (p at : ℕ) → Shaped file → p < cells_of file → at ≡ record_at p → at + record_size ≤ length file
 inside file p at s l e = let r = record-inside file (laid file s.shape) p l in omega arith
+
+pub cells-bounded : (file : List ℕ) (cells nets : ℕ) → Shaped file → Sized file cells nets → cells ≤ most_cells
+cells-bounded file cells nets s z = let c = (laid file s.shape).cells.at_most in let e = z.cells_are in omega arith
 
 pub position-bounded : (file : List ℕ) (p : ℕ) → Shaped file → p < cells_of file → p < most_cells
 position-bounded file p s l = let c = (laid file s.shape).cells.at_most in omega arith

@@ -10,8 +10,7 @@ ghost use Rattle.rules.specs.Drivers.{driver_at};
 ghost use Rattle.cells.specs.Whole.{Shaped, Sized, Whole};
 
 use rules::{
-    BLOCK_RECORDS, BLOCK_SIZE, Cell, Driver, HEAD_SIZE, NONE, Net, Position, RECORD_SIZE, Record,
-    Verdict,
+    BLOCK_RECORDS, BLOCK_SIZE, Cell, Driver, HEAD_SIZE, NONE, Net, Position, RECORD_SIZE, Verdict,
 };
 
 // Where the record of position 0 begins, and the bytes of a block that are not of its records.
@@ -63,22 +62,7 @@ fn of_kind_2(file: &[u8], cells: usize, k: Position) -> bool
 fn columns(on: bool, control: bool, net: bool) -> bool
     ensures { result ≡ (on && control && net) }
 {
-    if on {
-        if control {
-            return net;
-        }
-    }
-    false
-}
-
-// The cell, where the columns are as the table has them.
-fn means(fits: bool, cell: Cell) -> Record
-    ensures { result ≡ File.means fits cell }
-{
-    if fits {
-        return Record::Means(cell);
-    }
-    Record::Broken
+    on && control && net
 }
 
 // "A record: cell kind (1 byte), on value (1), control position (2), net (2)".
@@ -92,7 +76,7 @@ struct Fields {
 
 // The table of cell kinds: what a record with these fields means. Another record, the control cell's, is looked
 // at only where the kind asks for one.
-fn table(file: &[u8], cells: usize, nets: usize, fields: Fields) -> Record
+fn table(file: &[u8], cells: usize, nets: usize, fields: Fields) -> Option<Cell>
     requires shaped { Shaped file.now }
     requires sized { Sized file.now cells nets }
     ensures { result ≡ table_of fields.kind fields.on fields.control.0 fields.net.0 (of_kind2 file.now fields.control.0) (ltb fields.net.0 (nets_of file.now)) }
@@ -103,36 +87,20 @@ fn table(file: &[u8], cells: usize, nets: usize, fields: Fields) -> Record
     let net = fields.net;
     let connected = (net.0 as usize) < nets;
     match kind {
-        0 => means(
-            columns(on == 0, control.0 == NONE, net.0 == NONE),
-            Cell::Internal,
-        ),
-        1 => means(
-            columns(on == 0, control.0 == NONE, connected),
-            Cell::Input(net),
-        ),
-        2 => means(
-            columns(on < 2, control.0 == NONE, net.0 == NONE),
-            Cell::Control(on == 1),
-        ),
-        3 => means(
-            columns(on == 0, of_kind_2(file, cells, control), connected),
+        0 => columns(on == 0, control.0 == NONE, net.0 == NONE).then_some(Cell::Internal),
+        1 => columns(on == 0, control.0 == NONE, connected).then_some(Cell::Input(net)),
+        2 => columns(on < 2, control.0 == NONE, net.0 == NONE).then_some(Cell::Control(on == 1)),
+        3 => columns(on == 0, of_kind_2(file, cells, control), connected).then_some(
             Cell::ThreeState(control, net),
         ),
-        4 => means(
-            columns(on == 0, control.0 == NONE, connected),
-            Cell::TwoState(net),
-        ),
-        5 => means(
-            columns(on == 0, control.0 == NONE, connected),
-            Cell::OpenDrain(net),
-        ),
-        _ => Record::Broken,
+        4 => columns(on == 0, control.0 == NONE, connected).then_some(Cell::TwoState(net)),
+        5 => columns(on == 0, control.0 == NONE, connected).then_some(Cell::OpenDrain(net)),
+        _ => None,
     }
 }
 
 // What the record at position p means.
-fn record_of(file: &[u8], cells: usize, nets: usize, p: Position) -> Record
+fn record_of(file: &[u8], cells: usize, nets: usize, p: Position) -> Option<Cell>
     requires shaped { Shaped file.now }
     requires sized { Sized file.now cells nets }
     requires p_lt_cells { p.0 < cells }
@@ -162,49 +130,44 @@ pub fn records_verdict(file: &[u8], cells: usize, nets: usize) -> Verdict
     requires sized { Sized file.now cells nets }
     ensures { result ≡ judge (each 6 (cells_of file.now) (broken_at file.now) ∷ []) }
 {
-    let mut p = 0;
-    while p < cells {
-        let record = record_of(file, cells, nets, Position(p as u16));
-        let Record::Means(_) = record else {
-            return rules::refuse(6, p);
-        };
-        p += 1;
-    }
-    Verdict::Accepted
+    let broken = |p: usize| -> bool
+        requires shaped { Shaped file.now }
+        requires sized { Sized file.now cells nets }
+        requires p_lt_cells { p < cells }
+        ensures { result ≡ broken_at file.entry.now p }
+    { record_of(file, cells, nets, Position(p as u16)).is_none() };
+    rules::each(6, cells, broken)
 }
 
 // What the record at position p of a whole file says: its kind alone tells which columns its cell holds,
 // since check 6 has looked at each of them.
-fn plain_record(file: &[u8], p: Position) -> Record
+fn plain_record(file: &[u8], p: Position) -> Option<Cell>
     requires { Whole file.now p.0 }
     ensures { result ≡ record_of file.now p.0 }
 {
     let at = record_start(p);
     let kind = file[at];
     match kind {
-        0 => Record::Means(Cell::Internal),
-        1 => Record::Means(Cell::Input(Net(blocks::pair(file, at + 4)))),
-        2 => Record::Means(Cell::Control(file[at + 1] == 1)),
-        3 => Record::Means(Cell::ThreeState(
+        0 => Some(Cell::Internal),
+        1 => Some(Cell::Input(Net(blocks::pair(file, at + 4)))),
+        2 => Some(Cell::Control(file[at + 1] == 1)),
+        3 => Some(Cell::ThreeState(
             Position(blocks::pair(file, at + 2)),
             Net(blocks::pair(file, at + 4)),
         )),
-        4 => Record::Means(Cell::TwoState(Net(blocks::pair(file, at + 4)))),
-        5 => Record::Means(Cell::OpenDrain(Net(blocks::pair(file, at + 4)))),
-        _ => Record::Broken,
+        4 => Some(Cell::TwoState(Net(blocks::pair(file, at + 4)))),
+        5 => Some(Cell::OpenDrain(Net(blocks::pair(file, at + 4)))),
+        _ => None,
     }
 }
 
 // The cell at position p of a whole file: no record of it is broken.
+#[tactic(auto, unfolding(rules::specs::File::board_of))]
 pub fn cell_at(file: &[u8], p: Position) -> Cell
     requires { Whole file.now p.0 }
     ensures { result ≡ (board_of file.now).cell p.0 }
 {
-    let record = plain_record(file, p);
-    let Record::Means(cell) = record else {
-        return Cell::Internal;
-    };
-    cell
+    plain_record(file, p).unwrap_or(Cell::Internal)
 }
 
 // The net at position p of a whole file, or 65,535: what a walk along drivers needs of their records.
@@ -218,7 +181,7 @@ pub fn net_at(file: &[u8], p: Position) -> Net
 // What the cell at position p of a whole file drives: the one place that knows which kinds of cells are
 // drivers, and of which control cell. Every walk along drivers asks it, so it reads the record's bytes itself,
 // and tells first the kinds that are no outputs, since most cells are of these.
-pub fn driver_at(file: &[u8], p: Position) -> Driver
+pub fn driver_at(file: &[u8], p: Position) -> Option<Driver>
     requires { Whole file.now p.0 }
     ensures { result ≡ driver_at (board_of file.now) p.0 }
 {
@@ -227,11 +190,11 @@ pub fn driver_at(file: &[u8], p: Position) -> Driver
     let control = Position(blocks::pair(file, at + 2));
     let net = Net(blocks::pair(file, at + 4));
     if kind < FIRST_OUTPUT {
-        return Driver::Nothing;
+        return None;
     }
     match kind {
-        3 => Driver::Of(control, net),
-        5 => Driver::Of(p, net),
-        _ => Driver::Nothing,
+        3 => Some(Driver { control, net }),
+        5 => Some(Driver { control: p, net }),
+        _ => None,
     }
 }

@@ -6,6 +6,8 @@ use mathlib.Core.Bool.{Bool, true, false, cond, ◌&&◌, ◌||◌, false≢true
 use mathlib.Core.List.{List}
 use native.Mathlib.Numerals.{add-one}
 use native.Mathlib.Omega.{arith}
+use Rattle.std.specs.Prelude.{Some, None}
+use Rattle.std.proofs.lemmas.Option.{cond_some}
 use borrow.Author.Tests.{eqb-true, eq-eqb}
 use lib.Dec.{eqb}
 use lib.ListN.{length, get_or, set}
@@ -15,12 +17,10 @@ use Rattle.base.proofs.BoolLaws.{decided, fails-if, clashes, below_suc}
 use Rattle.rules.specs.File.{Board, board_of, cells_of, net_of, broken_at}
 use Rattle.rules.specs.Drivers.{controlled, control_for, always_on, on_net, output_of}
 use Rattle.rules.specs.Refusals.{judge, file_checks, most_cells, Accepted}
-use Rattle.rules.specs.declared.Cell.{Cell}
 use Rattle.rules.proofs.Shape.{laid, shaped, whole-records}
-use Rattle.rules.proofs.DriverLaws.{is_output, output-is, kept-control, kept-net}
+use Rattle.rules.proofs.DriverLaws.{kept-control, kept-net}
 use Rattle.chains.specs.Table.{By, ControlCell, NetOf, links_from, room, head_in, link_in, spliced, Same}
 use Rattle.chains.specs.Chains.{last, key_at, is_key, keyed, Linked}
-use Rattle.chains.specs.declared.Key.TheVariants.{Of, Nothing}
 use Rattle.chains.proofs.TableLaws.{spliced-head, spliced-link, spliced-other}
 
 -- one more number: it is the last where it passes, else the last stays
@@ -92,7 +92,7 @@ linked-same b by n t t' bounded same l =
 
 module _ (b : Board) (by : By) (c : ℕ) (t : List ℕ) (so_far : Linked b by c t) where
   -- a cell with no key changes nothing
-  pub linked-skip : key_at b by c ≡ Nothing → Linked b by (c + 1) t
+  pub linked-skip : key_at b by c ≡ None → Linked b by (c + 1) t
   unfolding keyed is_key
   linked-skip e =
       rw (add-one c)
@@ -103,7 +103,7 @@ module _ (b : Board) (by : By) (c : ℕ) (t : List ℕ) (so_far : Linked b by c 
       })
 
   -- a cell with key x: its link is the old head, the new head is the cell
-  pub linked-add : (x : ℕ) → key_at b by c ≡ Of x → x < room by → c < most_cells → links_from by + (most_cells + room by) ≤ length t → Linked b by (c + 1) (spliced (links_from by) c x t)
+  pub linked-add : (x : ℕ) → key_at b by c ≡ Some x → x < room by → c < most_cells → links_from by + (most_cells + room by) ≤ length t → Linked b by (c + 1) (spliced (links_from by) c x t)
   unfolding keyed is_key
   linked-add x e lx lc long = rw (add-one c) (record { head = heads-are; link = links-are; lower = lower-are })
     where
@@ -147,7 +147,7 @@ module _ (b : Board) (by : By) (c : ℕ) (t : List ℕ) (so_far : Linked b by c 
           (below_suc l)
 
 -- the link of a cell with no key is free: any number no higher than the cell may stand there
-pub linked-free : (b : Board) (by : By) (n : ℕ) (t : List ℕ) (c v : ℕ) → key_at b by c ≡ Nothing → c < most_cells → v ≤ c → links_from by + c < length t
+pub linked-free : (b : Board) (by : By) (n : ℕ) (t : List ℕ) (c v : ℕ) → key_at b by c ≡ None → c < most_cells → v ≤ c → links_from by + c < length t
     → Linked b by n t → Linked b by n (set t (links_from by + c) v)
 unfolding keyed is_key
 linked-free b by n t c v e bounded no-higher fits l =
@@ -168,25 +168,21 @@ linked-free b by n t c v e bounded no-higher fits l =
         (decided (eqb d c))
 
 -- a key of a whole file has a head
-pub key_below : (file : List ℕ) → judge (file_checks file) ≡ Accepted → (by : By) (c x : ℕ) → c < cells_of file → key_at (board_of file) by c ≡ Of x → x < room by
+pub key_below : (file : List ℕ) → judge (file_checks file) ≡ Accepted → (by : By) (c x : ℕ) → c < cells_of file → key_at (board_of file) by c ≡ Some x → x < room by
 unfolding key_at board_of
 key_below file ok by c x l e = go by e
   where
     whole : (p : ℕ) → p < cells_of file → broken_at file p ≡ false
     whole = whole-records file ok
 
-    picked : (a : Bool) (y : ℕ) → cond a (Of y) Nothing ≡ Of x → (a ≡ true) × (y ≡ x)
-    picked true y q = (refl, cc)
-    picked false y q = let z : ◌≡◌ {A = ℕ} 0 1 = cc in absurd (omega arith)
-
-    go : (by : By) → key_at (board_of file) by c ≡ Of x → x < room by
+    go : (by : By) → key_at (board_of file) by c ≡ Some x → x < room by
     go ControlCell h =
-        let q = picked _ _ h in
+        let q = cond_some _ _ _ h in
         let k = (kept-control file whole c l q.0).0 in
         let cells = (laid file (shaped file ok)).cells.at_most in
         rw (← q.1) (omega arith)
     go NetOf h =
-        let q = picked _ _ h in
+        let q = cond_some _ _ _ h in
         let n = kept-net file whole c l q.0 in
         let nets = (laid file (shaped file ok)).nets.at_most in
         rw (← q.1) (omega arith)
@@ -233,7 +229,7 @@ pub keyed-net : (b : Board) (n c : ℕ) → keyed b NetOf n c ≡ output_of b n 
 unfolding keyed key_at is_key output_of on_net
 keyed-net b n c = go (controlled b c || always_on b c) (net_of (b.cell c))
   where
-    go : (a : Bool) (m : ℕ) → is_key (cond a (Of m) Nothing) n ≡ (eqb m n && a)
+    go : (a : Bool) (m : ℕ) → is_key (cond a (Some m) None) n ≡ (eqb m n && a)
     go true m = sym (and-true (eqb m n))
     go false m = sym (and-false (eqb m n))
 
@@ -241,11 +237,6 @@ pub keyed-control : (b : Board) (k c : ℕ) → keyed b ControlCell k c ≡ (con
 unfolding keyed key_at is_key
 keyed-control b k c = go (controlled b c) (control_for b c)
   where
-    go : (a : Bool) (j : ℕ) → is_key (cond a (Of j) Nothing) k ≡ (a && eqb j k)
+    go : (a : Bool) (j : ℕ) → is_key (cond a (Some j) None) k ≡ (a && eqb j k)
     go true j = refl
     go false j = refl
-
--- the net of the output that was found at c, if it is one
-pub output-key : (b : Board) (c : ℕ) (found cell : Cell) → found ≡ b.cell c → found ≡ cell → cond (is_output cell) (Of (net_of cell)) Nothing ≡ key_at b NetOf c
-unfolding key_at
-output-key b c found cell e f = let q = sym e ∙ f in rw (output-is b c cell q, q)

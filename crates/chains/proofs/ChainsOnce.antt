@@ -2,11 +2,12 @@
 -- links of the cells that have a key; two that hold its numbers of drivers have the same numbers. The links of cells that have no key are left open, and
 -- nothing else of a filled table is: two that agree there are equal. The idea: every entry of the table is a link, a head or a number.
 use Prim.Native.Nat.{ℕ, ◌+◌, ◌-◌, ◌≤◌, ◌<◌}
-use mathlib.Core.Path.{◌≡◌, refl, sym, ◌∙◌}
+use mathlib.Core.Path.{◌≡◌, refl, sym, ◌∙◌, ap}
 use mathlib.Core.Logic.{⊎_elim}
 use mathlib.Core.Bool.{true, false}
 use mathlib.Core.List.{List}
 use native.Mathlib.Omega.{arith}
+use Rattle.std.specs.Prelude.{Option, Some, None, option_map}
 use borrow.Author.Tests.{eq-eqb}
 use lib.ListN.{length, get_or}
 use lib.Seq.{ext_get_or}
@@ -14,9 +15,8 @@ use Rattle.base.proofs.BoolLaws.{order}
 use Rattle.rules.specs.File.{board_of, cells_of}
 use Rattle.rules.specs.Refusals.{most_cells, most_nets}
 use Rattle.rules.specs.declared.Position.{Position}
-use Rattle.chains.specs.declared.Key.{Key}
-use Rattle.chains.specs.declared.Key.TheVariants.{Of, Nothing}
-use Rattle.chains.specs.Table.{By, ControlCell, NetOf, room, links_from, counts_from, spare_from, table_size, head_in, link_in, count_in, Same}
+use Rattle.rules.specs.declared.Net.{Net}
+use Rattle.chains.specs.Table.{By, ControlCell, NetOf, room, links_from, counts_from, spare_from, table_size, entry_of, head_in, link_in, count_in, Same}
 use Rattle.chains.specs.Chains.{key_at, is_key, keyed, Chains}
 use Rattle.chains.specs.Counts.{Counted}
 use Rattle.chains.specs.Filling.{Filled}
@@ -53,9 +53,9 @@ links-all file by t t' h k same c l =
     (λ (m : cells_of file ≤ c). same c l (λ key n. absurd (omega arith)))
     (order c (cells_of file))
   where
-    by_key : c < cells_of file → (key : Key) → key_at (board_of file) by c ≡ key → link_in by t c ≡ link_in by t' c
-    by_key m (Of n) e = links-once file by t t' h k c n m (rw e (eq-eqb n n refl))
-    by_key m Nothing e = same c l (λ key n. rw e refl)
+    by_key : c < cells_of file → (key : Option ℕ) → key_at (board_of file) by c ≡ key → link_in by t c ≡ link_in by t' c
+    by_key m (Some n) e = links-once file by t t' h k c n m (rw e (eq-eqb n n refl))
+    by_key m None e = same c l (λ key n. rw e refl)
 
 -- the entry at i, by where it stands
 at_place : (t t' : List ℕ) (i j : ℕ) → i ≡ j → get_or t j 0 ≡ get_or t' j 0 → get_or t i 0 ≡ get_or t' i 0
@@ -115,6 +115,18 @@ module _
   filled-once =
       tables-once file t t' h.long k.long h.by-control k.by-control h.counted k.counted links-same (record { entry = λ i a l. sym (nets-entry i a l) })
 
--- the cell that a head or a link names is one position
-pub named-once : (at : ℕ) (r s : Position) → r.0 ≡ at - 1 → s.0 ≡ at - 1 → r ≡ s
-named-once at r s h k = λ i. record { 0 = (h ∙ sym k) i }
+-- an entry of the spare room is one position; one of the chains names one position, or none; and a cell is on one net, or on none
+pub spare-once : (entry : ℕ) (r s : Position) → r.0 ≡ entry → s.0 ≡ entry → r ≡ s
+spare-once entry r s h k = λ i. record { 0 = (h ∙ sym k) i }
+
+pub named-once : (entry : ℕ) (r s : Option Position) → entry_of r ≡ entry → entry_of s ≡ entry → r ≡ s
+named-once entry None None h k = refl
+named-once entry None (Some d) h k = absurd (omega arith)
+named-once entry (Some c) None h k = absurd (omega arith)
+named-once entry (Some c) (Some d) h k = ap Some (spare-once c.0 c d refl (omega arith))
+
+pub key-once : (key : Option ℕ) (r s : Option Net) → option_map (λ n. n.0) r ≡ key → option_map (λ n. n.0) s ≡ key → r ≡ s
+key-once key None None h k = refl
+key-once key None (Some d) h k = cc
+key-once key (Some c) None h k = cc
+key-once key (Some c) (Some d) h k = let e : c.0 ≡ d.0 = cc in λ i. Some (record { 0 = e i })

@@ -1,14 +1,14 @@
 -- A blank table holds no position. One position more: a cell that is no output changes nothing, an output is linked by its net, a driver also by
 -- its control cell, and counted.
 use Prim.Native.Nat.{ℕ, ◌+◌, ◌<◌, ◌≤◌}
-use mathlib.Core.Path.{◌≡◌, refl, sym, ◌∙◌}
+use mathlib.Core.Path.{◌≡◌, refl, ◌∙◌}
 use mathlib.Core.List.{List}
 use native.Mathlib.Omega.{arith}
 use lib.ListN.{length, set, length-set}
 use lib.Seq.{get_or-set_other}
 use Rattle.base.specs.Counting.{count}
 use Rattle.rules.specs.File.{Board, board_of, cells_of}
-use Rattle.rules.specs.Drivers.{driver_at}
+use Rattle.rules.specs.Drivers.{Of, driver_at}
 use Rattle.rules.specs.Refusals.{judge, file_checks, most_cells, most_nets, Accepted}
 use Rattle.rules.specs.declared.Driver.{Driver}
 use Rattle.std.specs.Prelude.{Option, Some, None}
@@ -20,32 +20,28 @@ use Rattle.chains.specs.Table.{By, ControlCell, NetOf, links_from, room, counts_
 use Rattle.chains.specs.Chains.{key_at, Grown}
 use Rattle.chains.specs.Counts.{Counted}
 use Rattle.chains.specs.Filling.{Entered, Filled}
-use Rattle.chains.specs.declared.Key.TheVariants.{Of, Nothing}
 use Rattle.chains.proofs.TableLaws.{spliced_long, spliced-apart, more-long, more-before}
 use Rattle.chains.proofs.Chaining.{linked-none, linked-same, linked-skip, linked-add, linked-free, key_below}
 use Rattle.chains.proofs.CountLaws.{counted_same, counted_skip, counted-add, counts-bounded}
 
-never : (x : ℕ) → Of x ≡ Nothing → ⊥
-never x e = let z : ◌≡◌ {A = ℕ} 0 1 = cc in omega arith
-
 module _ (b : Board) (c : ℕ) where
   -- the control cell's chains go by drivers alone
-  no-control : driver_at b c ≡ driver.Nothing → key_at b ControlCell c ≡ Nothing
+  no-control : driver_at b c ≡ None → key_at b ControlCell c ≡ None
   unfolding key_at
   no-control e = rw (no-driver b c e)
 
   -- a driver's keys are its control cell and its net
-  keys : (k : Position) (n : Net) → driver_at b c ≡ driver.Of k n → (key_at b ControlCell c ≡ Of k.0) × (key_at b NetOf c ≡ Of n.0)
+  keys : (k : Position) (n : Net) → driver_at b c ≡ Of k n → (key_at b ControlCell c ≡ Some k.0) × (key_at b NetOf c ≡ Some n.0)
   unfolding key_at
   keys k n e = let d = is-driver b c k n e in (rw (d.0, d.1), rw (d.0, d.2))
 
   -- what is no output is no driver
-  no_output : key_at b NetOf c ≡ Nothing → driver_at b c ≡ driver.Nothing
+  no_output : key_at b NetOf c ≡ None → driver_at b c ≡ None
   no_output e = go (driver_at b c) refl
     where
-      go : (d : Driver) → driver_at b c ≡ d → driver_at b c ≡ driver.Nothing
-      go driver.Nothing q = q
-      go (driver.Of k n) q = absurd (never n.0 (sym (keys k n q).1 ∙ e))
+      go : (d : Option Driver) → driver_at b c ≡ d → driver_at b c ≡ None
+      go None q = q
+      go (Some d) q = cc ((keys d.control d.net q).1)
 
 -- a blank table is that of no position
 pub enter-first : (file : List ℕ) → judge (file_checks file) ≡ Accepted → (t : List ℕ) → Blank t → Entered file 0 t
@@ -63,10 +59,10 @@ enter-first file ok t z =
 
 -- the chains of a family by one cell more
 module _ (file : List ℕ) (by : By) (c : ℕ) (t : List ℕ) (g : Grown file by c t) where
-  pub grown-skip : key_at (board_of file) by c ≡ Nothing → Grown file by (c + 1) t
+  pub grown-skip : key_at (board_of file) by c ≡ None → Grown file by (c + 1) t
   grown-skip e = record { checked = g.checked; linked = linked-skip (board_of file) by c t g.linked e }
 
-  pub grown-add : links_from by + (most_cells + room by) ≤ length t → c < cells_of file → (x : ℕ) → key_at (board_of file) by c ≡ Of x → Grown file by (c + 1) (spliced (links_from by) c x t)
+  pub grown-add : links_from by + (most_cells + room by) ≤ length t → c < cells_of file → (x : ℕ) → key_at (board_of file) by c ≡ Some x → Grown file by (c + 1) (spliced (links_from by) c x t)
   grown-add long l x e =
       record {
         checked = g.checked;
@@ -104,7 +100,7 @@ module _ (file : List ℕ) (c : ℕ) (t : List ℕ) (so_far : Entered file c t) 
   position-fits : c < most_cells
   position-fits = let f = (laid file (shaped file so_far.by-net.checked)).cells.at_most in omega arith
 
-  pub enter-none : key_at (board_of file) NetOf c ≡ Nothing → Entered file (c + 1) t
+  pub enter-none : key_at (board_of file) NetOf c ≡ None → Entered file (c + 1) t
   enter-none e =
       let d = no_output _ _ e in
       record {
@@ -118,7 +114,7 @@ module _ (file : List ℕ) (c : ℕ) (t : List ℕ) (so_far : Entered file c t) 
   abbrev netted : ℕ → List ℕ
   netted n = spliced (links_from NetOf) c n t
 
-  module _ (n : ℕ) (e : key_at (board_of file) NetOf c ≡ Of n) where
+  module _ (n : ℕ) (e : key_at (board_of file) NetOf c ≡ Some n) where
     net-fits : n < room NetOf
     net-fits = key_below file so_far.by-net.checked NetOf c n l e
 
@@ -138,7 +134,7 @@ module _ (file : List ℕ) (c : ℕ) (t : List ℕ) (so_far : Entered file c t) 
     pub output-fits : (c < most_cells) × (n < most_nets)
     output-fits = (position-fits, net-fits)
 
-    pub enter-output : driver_at (board_of file) c ≡ driver.Nothing → Entered file (c + 1) (netted n)
+    pub enter-output : driver_at (board_of file) c ≡ None → Entered file (c + 1) (netted n)
     enter-output d =
         record {
           long = netted-long;
@@ -148,11 +144,11 @@ module _ (file : List ℕ) (c : ℕ) (t : List ℕ) (so_far : Entered file c t) 
         }
 
   -- linked by its net and its control cell, and counted
-  module _ (k : Position) (n : Net) (d : driver_at (board_of file) c ≡ driver.Of k n) where
+  module _ (k : Position) (n : Net) (d : driver_at (board_of file) c ≡ Of k n) where
     control-fits : k.0 < room ControlCell
     control-fits = key_below file so_far.by-net.checked ControlCell c k.0 l (keys (board_of file) c k n d).0
 
-    own : key_at (board_of file) NetOf c ≡ Of n.0
+    own : key_at (board_of file) NetOf c ≡ Some n.0
     own = (keys (board_of file) c k n d).1
 
     abbrev both : List ℕ
@@ -207,7 +203,7 @@ module _ (file t : List ℕ) (k v : ℕ) (h : Filled file t) (l : k < cells_of f
   free-fits : k < most_cells
   free-fits = let f = (laid file (shaped file h.by-net.checked)).cells.at_most in omega arith
 
-  pub filled-free : driver_at (board_of file) k ≡ driver.Nothing → v ≤ k → Filled file (set t (links_from ControlCell + k) v)
+  pub filled-free : driver_at (board_of file) k ≡ None → v ≤ k → Filled file (set t (links_from ControlCell + k) v)
   filled-free d no-higher =
       let position-fits = free-fits in
       let fits : links_from ControlCell + k < length t = (let q = h.long in omega arith) in

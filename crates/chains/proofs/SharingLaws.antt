@@ -7,7 +7,7 @@ use native.Mathlib.Omega.{arith}
 use borrow.Author.Tests.{eqb-true, lt-ltb, ltb-true}
 use lib.Dec.{eqb, ltb}
 use Rattle.base.proofs.BoolLaws.{left, right, both, fails-if, same_test, eqb-back}
-use Rattle.std.specs.Prelude.{None, Option, Some}
+use Rattle.std.specs.Prelude.{None}
 use Rattle.rules.specs.File.{Board, board_of}
 use Rattle.rules.specs.Drivers.{driver_at, Of}
 use Rattle.rules.specs.declared.Position.{Position}

@@ -1,7 +1,8 @@
 -- The one lent table: where its parts stand, and what an entry of each is. A family of chains has its links, one a position, and then its heads,
 -- one a key. Assumes nothing.
-use Rattle.std.specs.Prelude.{ℕ, ◌+◌, ◌*◌, ◌≤◌, ◌<◌, ◌≡◌, List, length, get_or, set}
+use Rattle.std.specs.Prelude.{ℕ, suc, ◌+◌, ◌*◌, ◌≤◌, ◌<◌, ◌≡◌, List, length, get_or, set, Option, None, Some}
 use Rattle.rules.specs.Refusals.{most_cells, most_nets}
+use Rattle.rules.specs.declared.Position.{Position}
 
 -- what a chain of outputs goes by: their control cell or their net
 pub data By : Type 0 where
@@ -29,6 +30,11 @@ spare_from = links_from NetOf
 -- all entries
 abbrev pub table_size : ℕ
 table_size = 3 * most_cells + 2 * most_nets
+
+-- the entry that names a position, or none: 1 + the position, or 0
+abbrev pub entry_of : Option Position → ℕ
+entry_of None = 0
+entry_of (Some c) = suc c.0
 
 -- the head of key k, the link of the cell at c, the number of drivers of net n
 abbrev pub head_in : By → List ℕ → ℕ → ℕ

@@ -4,9 +4,9 @@ ghost use Rattle.rules.specs.File.{cells_of, board_of};
 ghost use Rattle.rules.specs.Drivers.{driver_at};
 ghost use Rattle.chains.specs.Filling.{Entered, Fillable, Filled};
 
-use crate::{Key, LINKS, NET_LINKS, TABLE, count_driver, net_key, splice};
+use crate::{LINKS, NET_LINKS, TABLE, count_driver, net_key, splice};
 use cells::driver_at;
-use rules::{Driver, Position};
+use rules::Position;
 
 // The same for a cell that drives nothing for a control cell: only an output is linked, by its net.
 fn enter_other(file: &[u8], table: &mut [u16; TABLE], c: Position)
@@ -15,11 +15,10 @@ fn enter_other(file: &[u8], table: &mut [u16; TABLE], c: Position)
     requires c_value { driver_at (board_of file.now) c.0 ≡ None }
     ensures { Entered file.now (c.0 + 1) table.new }
 {
-    let output = net_key(file, c);
-    let Key::Of(n) = output else {
+    let Some(n) = net_key(file, c) else {
         return;
     };
-    splice(table, NET_LINKS, c, n);
+    splice(table, NET_LINKS, c, n.0 as usize);
 }
 
 // The chains and numbers of the positions below c, grown by c: a driver is linked by its net and by its
@@ -29,13 +28,12 @@ fn enter(file: &[u8], table: &mut [u16; TABLE], c: Position)
     requires c_bound { c.0 < cells_of file.now }
     ensures { Entered file.now (c.0 + 1) table.new }
 {
-    let driver = driver_at(file, c);
-    let Driver::Of(k, n) = driver else {
+    let Some(driver) = driver_at(file, c) else {
         return enter_other(file, table, c);
     };
-    splice(table, NET_LINKS, c, n.0 as usize);
-    splice(table, LINKS, c, k.0 as usize);
-    count_driver(table, n);
+    splice(table, NET_LINKS, c, driver.net.0 as usize);
+    splice(table, LINKS, c, driver.control.0 as usize);
+    count_driver(table, driver.net);
 }
 
 // The chains and numbers of a whole file, in a table that holds nothing yet.
@@ -43,9 +41,7 @@ pub fn fill_table(file: &[u8], cells: usize, table: &mut [u16; TABLE])
     requires { Fillable file.now cells table.old }
     ensures { Filled file.now table.new }
 {
-    let mut c = 0;
-    while c < cells {
+    for c in 0..cells {
         enter(file, table, Position(c as u16));
-        c += 1;
     }
 }

@@ -2,10 +2,10 @@
 // drivers. It is filled in `filling` and walked in `sharing`.
 #![tactic(auto)]
 
-ghost use Rattle.std.specs.Prelude.{◌≡◌, ◌+◌, ◌-◌, ◌<◌, ◌≤◌, get_or, set};
+ghost use Rattle.std.specs.Prelude.{◌≡◌, ◌+◌, ◌<◌, get_or, set, option_map};
 ghost use Rattle.rules.specs.File.{board_of};
 ghost use Rattle.rules.specs.Refusals.{most_cells, most_nets};
-ghost use Rattle.chains.specs.Table.{ControlCell, NetOf, links_from, head_in, link_in, count_in, spare_in, spare_from, spliced, one_more, table_size};
+ghost use Rattle.chains.specs.Table.{ControlCell, NetOf, links_from, entry_of, head_in, link_in, count_in, spare_in, spare_from, spliced, one_more, table_size};
 ghost use Rattle.chains.specs.Chains.{key_at};
 ghost use Rattle.cells.specs.Whole.{Whole};
 
@@ -26,65 +26,63 @@ const COUNTS: usize = 3 * MOST_CELLS + MOST_NETS;
 // How many entries the table has, two bytes each.
 pub const TABLE: usize = 3 * MOST_CELLS + 2 * MOST_NETS;
 
-// A cell's key in a chain, if it has one.
-#[derive(Clone, Copy)]
-pub enum Key {
-    Of(usize),
-    Nothing,
-}
-
 // What the table holds at i.
-fn held(table: &[u16; TABLE], i: usize) -> usize
+fn held(table: &[u16; TABLE], i: usize) -> u16
     requires { i < table_size }
     ensures { result ≡ get_or table.now i 0 }
 {
-    wide(table[i])
+    table[i]
 }
 
-fn wide(entry: u16) -> usize
-    ensures { result ≡ entry }
+// The position that the entry of a head or a link names, if it names one: it is 1 + the position.
+pub fn named(entry: u16) -> Option<Position>
+    ensures { entry_of result ≡ entry }
 {
-    entry as usize
+    Some(Position(entry.checked_sub(1)?))
 }
 
-// 1 + the highest driver of control cell k, or 0.
-pub fn head(table: &[u16; TABLE], k: Position) -> usize
+// The five readers below differ in their offset, the type of their index and the part of the table that
+// they promise: a trait for the two families, with both types and both promises, would be longer than
+// the two calls of `held` that it saves.
+
+// The highest driver of control cell k.
+pub fn head(table: &[u16; TABLE], k: Position) -> Option<Position>
     requires { k.0 < most_cells }
-    ensures { result ≡ head_in ControlCell table.now k.0 }
+    ensures { entry_of result ≡ head_in ControlCell table.now k.0 }
 {
-    held(table, LINKS + (MOST_CELLS + k.0 as usize))
+    named(held(table, LINKS + (MOST_CELLS + k.0 as usize)))
 }
 
-// 1 + the next lower driver of the same control cell as the driver at c, or 0.
-pub fn link(table: &[u16; TABLE], c: Position) -> usize
+// The next lower driver of the same control cell as the driver at c.
+pub fn link(table: &[u16; TABLE], c: Position) -> Option<Position>
     requires { c.0 < most_cells }
-    ensures { result ≡ link_in ControlCell table.now c.0 }
+    ensures { entry_of result ≡ link_in ControlCell table.now c.0 }
 {
-    held(table, LINKS + c.0 as usize)
+    named(held(table, LINKS + c.0 as usize))
 }
 
-// 1 + the highest output of net n, or 0.
-pub fn net_head(table: &[u16; TABLE], n: Net) -> usize
+// The highest output of net n.
+pub fn net_head(table: &[u16; TABLE], n: Net) -> Option<Position>
     requires { n.0 < most_nets }
-    ensures { result ≡ head_in NetOf table.now n.0 }
+    ensures { entry_of result ≡ head_in NetOf table.now n.0 }
 {
-    held(table, NET_LINKS + (MOST_CELLS + n.0 as usize))
+    named(held(table, NET_LINKS + (MOST_CELLS + n.0 as usize)))
 }
 
-// 1 + the next lower output of the same net as the output at c, or 0.
-pub fn net_link(table: &[u16; TABLE], c: Position) -> usize
+// The next lower output of the same net as the output at c.
+pub fn net_link(table: &[u16; TABLE], c: Position) -> Option<Position>
     requires { c.0 < most_cells }
-    ensures { result ≡ link_in NetOf table.now c.0 }
+    ensures { entry_of result ≡ link_in NetOf table.now c.0 }
 {
-    held(table, NET_LINKS + c.0 as usize)
+    named(held(table, NET_LINKS + c.0 as usize))
 }
 
 // Entry i of the room that the chains by net leave free after the verdict.
-pub fn spare(table: &[u16; TABLE], i: usize) -> usize
+pub fn spare(table: &[u16; TABLE], i: usize) -> Position
     requires { i < most_cells }
-    ensures { result ≡ spare_in table.now i }
+    ensures { result.0 ≡ spare_in table.now i }
 {
-    held(table, NET_LINKS + i)
+    Position(held(table, NET_LINKS + i))
 }
 
 // Position c as entry i of that room.
@@ -95,7 +93,8 @@ pub fn set_spare(table: &mut [u16; TABLE], i: usize, c: Position)
     table[NET_LINKS + i] = c.0;
 }
 
-// The link of a cell that drives nothing is free: `at` stands there from now on.
+// The link of a cell that drives nothing is free: `at` stands there from now on. It stays a number, since it
+// is an entry that its caller keeps as one (`nesting`, heads by number of drivers) and hands over unread.
 pub fn set_free_link(table: &mut [u16; TABLE], c: Position, at: u16)
     requires { c.0 < most_cells }
     ensures { table.new ≡ set table.old (links_from ControlCell + c.0) at }
@@ -108,30 +107,17 @@ pub fn drivers_on(table: &[u16; TABLE], n: Net) -> usize
     requires { n.0 < most_nets }
     ensures { result ≡ count_in table.now n.0 }
 {
-    held(table, COUNTS + n.0 as usize)
-}
-
-// The cell that a head or a link names: these are 1 + its position.
-pub fn cell_named(at: usize) -> Position
-    requires { (0 < at) × (at ≤ most_cells) }
-    ensures { result.0 ≡ at - 1 }
-{
-    Position((at - 1) as u16)
+    held(table, COUNTS + n.0 as usize) as usize
 }
 
 // The net of the output at c.
-pub(crate) fn net_key(file: &[u8], c: Position) -> Key
+pub(crate) fn net_key(file: &[u8], c: Position) -> Option<Net>
     requires { Whole file.now c.0 }
-    ensures { result ≡ key_at (board_of file.now) NetOf c.0 }
+    ensures { option_map (λ n. n.0) result ≡ key_at (board_of file.now) NetOf c.0 }
 {
-    let cell = cell_at(file, c);
-    match cell {
-        Cell::Internal => Key::Nothing,
-        Cell::Input(_) => Key::Nothing,
-        Cell::Control(_) => Key::Nothing,
-        Cell::ThreeState(_, n) => Key::Of(n.0 as usize),
-        Cell::TwoState(n) => Key::Of(n.0 as usize),
-        Cell::OpenDrain(n) => Key::Of(n.0 as usize),
+    match cell_at(file, c) {
+        Cell::Internal | Cell::Input(_) | Cell::Control(_) => None,
+        Cell::ThreeState(_, n) | Cell::TwoState(n) | Cell::OpenDrain(n) => Some(n),
     }
 }
 
@@ -149,5 +135,5 @@ pub(crate) fn count_driver(table: &mut [u16; TABLE], n: Net)
     requires { (n.0 < most_nets) × (count_in table.old n.0 < most_cells) }
     ensures { table.new ≡ one_more n.0 table.old }
 {
-    table[COUNTS + n.0 as usize] = table[COUNTS + n.0 as usize] + 1;
+    table[COUNTS + n.0 as usize] += 1;
 }

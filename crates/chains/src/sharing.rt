@@ -8,9 +8,9 @@ ghost use Rattle.chains.specs.Chains.{Chains};
 ghost use Rattle.chains.specs.Sharing.{with_control, with_controls, with_sharers, partners_of};
 ghost use Rattle.cells.specs.Whole.{Whole};
 
-use crate::{TABLE, cell_named, head, link, net_head, net_link};
+use crate::{TABLE, head, link, net_head, net_link};
 use cells::{driver_at, net_at};
-use rules::{Driver, Net, Position};
+use rules::{Net, Position};
 use words::{CellSet, NET_WORDS, NetSet, loops};
 
 // The net set of control cell k, gathered where it stands.
@@ -21,8 +21,7 @@ pub fn nets_of(file: &[u8], table: &[u16; TABLE], k: Position) -> NetSet
 {
     let mut words = [0u64; NET_WORDS];
     let mut at = head(table, k);
-    while 0 < at {
-        let c = cell_named(at);
+    while let Some(c) = at {
         let n = net_at(file, c);
         loops::add(&mut words, n.0 as usize);
         at = link(table, c);
@@ -36,14 +35,13 @@ fn add_control(file: &[u8], c: Position, floor: Position, set: CellSet) -> CellS
     requires { Whole file.now c.0 }
     ensures { member result.words ≡ with_control (board_of file.now) floor.0 c.0 (member set.words) }
 {
-    let driver = driver_at(file, c);
-    let Driver::Of(k, _) = driver else {
+    let Some(driver) = driver_at(file, c) else {
         return set;
     };
-    if k.0 <= floor.0 {
+    if driver.control.0 <= floor.0 {
         return set;
     }
-    set.with(k)
+    set.with(driver.control)
 }
 
 // The set with the control cells of net n above floor besides.
@@ -54,8 +52,7 @@ fn add_controls(file: &[u8], table: &[u16; TABLE], n: Net, floor: Position, met:
 {
     let mut more = met;
     let mut at = net_head(table, n);
-    while 0 < at {
-        let c = cell_named(at);
+    while let Some(c) = at {
         more = add_control(file, c, floor, more);
         at = net_link(table, c);
     }
@@ -74,11 +71,10 @@ fn add_sharers(
     requires c_bound { c.0 < cells_of file.now }
     ensures { member result.words ≡ with_sharers (board_of file.now) floor.0 c.0 (member met.words) }
 {
-    let driver = driver_at(file, c);
-    let Driver::Of(_, n) = driver else {
+    let Some(driver) = driver_at(file, c) else {
         return met;
     };
-    add_controls(file, table, n, floor, met)
+    add_controls(file, table, driver.net, floor, met)
 }
 
 // The control cells above k that share a net with it.
@@ -90,8 +86,7 @@ pub fn partners(file: &[u8], table: &[u16; TABLE], k: Position) -> CellSet
 {
     let mut set = CellSet::empty();
     let mut at = head(table, k);
-    while 0 < at {
-        let c = cell_named(at);
+    while let Some(c) = at {
         set = add_sharers(file, table, c, k, set);
         at = link(table, c);
     }

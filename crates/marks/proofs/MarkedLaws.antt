@@ -1,17 +1,15 @@
 -- Laws of marks that are written and counted one by one: the marks of n nets and one more are those of n + 1.
 use Prim.Native.Nat.{ℕ, ◌+◌, ◌<◌, ◌≤◌}
 use mathlib.Core.Path.{◌≡◌, refl, sym, ◌∙◌, ap}
-use mathlib.Core.Bool.{Bool, not}
+use mathlib.Core.Bool.{Bool}
 use mathlib.Core.List.{List, [], ◌∷◌, ◌++◌}
 use native.Mathlib.Numerals.{add-one}
 use native.Mathlib.Omega.{arith}
-use borrow.Author.Tests.{ltb-true, lt-ltb, eqb-false, ne_eqb}
-use lib.Dec.{ltb}
-use lib.ListN.{length, set, take, length-append, length-drop}
+use lib.ListN.{length, set, take, drop, length-append, length-drop}
+use Rattle.std.proofs.lemmas.List.{append-nil, drop_all, length-take-le}
 use lib.Seq.{append_snoc, set_split}
 use Rattle.base.specs.Tests.{digit}
 use Rattle.base.specs.Lists.{table}
-use Rattle.base.proofs.BoolLaws.{left, right, both, not-fails, fails-not, same_test}
 use Rattle.base.proofs.DigitLaws.{digit-bounded}
 use Rattle.base.proofs.ListLaws.{length-table, table_same}
 use Rattle.rules.specs.File.{Board}
@@ -23,26 +21,6 @@ use Rattle.rows.proofs.PlacedLaws.{over-more}
 use Rattle.marks.specs.Judging.{seen_by, mark_by, marks_by, Tested, mark_in, marks_in, counts_of, one_more, CountsBounded, Marked, Counted}
 use Rattle.marks.specs.declared.Tests.{Tests}
 use Rattle.marks.specs.declared.Counts.{Counts}
-
--- a byte over 1 is neither pass nor fail
-unsure-is : (byte : ℕ) → ltb 1 byte ≡ is_unsure byte
-unsure-is byte =
-    same_test _ _
-    (λ t. let l = ltb-true 1 byte t in both (not-fails (ne_eqb byte 0 (λ e. omega arith))) (not-fails (ne_eqb byte 1 (λ e. omega arith))))
-    (λ t.
-    let p = eqb-false byte 0 (fails-not _ (left (not (is_pass byte)) _ t)) in
-    let f = eqb-false byte 1 (fails-not _ (right (not (is_pass byte)) t)) in
-    lt-ltb 1 byte (omega arith))
-
--- one mark byte more, by the digits of its three tests
-pub one_more-counted :
-    (counts : Counts) (byte p f u : ℕ) →
-    p ≡ digit (is_pass byte) →
-    f ≡ digit (is_fail byte) →
-    u ≡ digit (ltb 1 byte) →
-    record { pass = counts.pass + p; fail = counts.fail + f; unsure = counts.unsure + u } ≡ one_more counts byte
-unfolding one_more
-one_more-counted counts byte p f u passes fails neither = rw (passes, fails, neither, unsure-is)
 
 -- bytes that pass a test: one more, and no more than there are
 bytes-more : (test : ℕ → Bool) (bytes : List ℕ) (byte : ℕ) → bytes_that test (bytes ++ (byte ∷ [])) ≡ bytes_that test bytes + digit (test byte)
@@ -84,9 +62,9 @@ module _ (tests : Tests) where
   marks-next n = rw (add-one n)
 
   module _ (before : List ℕ) where
-    pub marked-none : Marked tests 0 before before (record { pass = 0; fail = 0; unsure = 0 })
+    pub marked-none : (counts : Counts) → counts.pass ≡ 0 → counts.fail ≡ 0 → counts.unsure ≡ 0 → Marked tests 0 before before counts
     unfolding marks_in table counts_of bytes_that
-    marked-none = record { buffer = refl; counted = refl }
+    marked-none counts p f u = record { buffer = refl; counted = λ i. record { pass = p i; fail = f i; unsure = u i } }
 
     pub marked_more :
         {n : ℕ} {after : List ℕ} {counts : Counts} →
@@ -105,12 +83,15 @@ module _ (tests : Tests) where
             ∙ over-one (marks_in tests n) before n byte (marks-long n) l
             ∙ ap (λ (bytes : List ℕ). over bytes before) (ap (λ (x : ℕ). marks_in tests n ++ (x ∷ [])) e ∙ sym (marks-next n))
 
-    -- the buffer is as long as it was, and the numbers are small
-    pub marked-long : {n : ℕ} {after : List ℕ} {counts : Counts} → Marked tests n before after counts → n ≤ length before → length after ≡ length before
-    marked-long {n} m l =
+    -- with all n nets the bytes lent are written, and the rest of the buffer stands behind them
+    pub marked-all : {n : ℕ} {bytes : List ℕ} {counts : Counts} → Marked tests n (take n before) bytes counts → n ≤ length before → Marked tests n before (bytes ++ drop n before) counts
+    marked-all {n} {bytes} m l =
         let long = marks-long n in
-        ap length m.buffer ∙ simp (length-append, length-drop) (omega arith)
+        let none : drop n (take n before) ≡ [] = drop_all n (take n before) (omega (arith, length-take-le n before l)) in
+        let all : bytes ≡ marks_in tests n = m.buffer ∙ rw (long, none, append-nil) in
+        record { buffer = rw (all, long); counted = m.counted }
 
+    -- the numbers are small
     pub marked-bounded : {n : ℕ} {after : List ℕ} {counts : Counts} → Marked tests n before after counts → n ≤ most_nets → CountsBounded counts
     unfolding counts_of
     marked-bounded {n} m l =

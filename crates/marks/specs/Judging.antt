@@ -1,5 +1,5 @@
 -- From what each cell read to the marks of the nets: the tests that the readings give, the sets that hold them, the marks and their numbers. Assumes nothing.
-use Rattle.std.specs.Prelude.{ℕ, suc, ◌+◌, ◌≤◌, ◌<◌, ◌≡◌, Bool, not, ◌&&◌, ◌||◌, List, [], ◌∷◌, eqb, length, get_or}
+use Rattle.std.specs.Prelude.{Option, Some, None, ℕ, suc, ◌+◌, ◌≤◌, ◌<◌, ◌≡◌, Bool, not, ◌&&◌, ◌||◌, List, [], ◌∷◌, eqb, length, get_or}
 use Rattle.base.specs.Tests.{digit, any}
 use Rattle.base.specs.Lists.{table}
 use Rattle.rules.specs.File.{Board, cells_of, nets_of}
@@ -12,8 +12,7 @@ use Rattle.rules.specs.declared.Cell.TheVariants.{Internal, Input, Control, Thre
 use Rattle.rules.specs.declared.Mark.{Mark}
 use Rattle.rules.specs.declared.Mark.TheVariants.{Fail, NotSeen, ReadTwice}
 use Rattle.words.specs.Sets.{member}
-use Rattle.marks.specs.declared.Reader.{Reader}
-use Rattle.marks.specs.declared.Reader.TheVariants.{Of, Nothing}
+use Rattle.rules.specs.declared.Net.{Net}
 use Rattle.marks.specs.declared.Tests.{Tests}
 use Rattle.marks.specs.declared.Counts.{Counts}
 
@@ -61,13 +60,13 @@ pub record Readings (file readings : List ℕ) : Type 0 where
   pub nets : (c : ℕ) → c < cells_of file → read readings c ≤ nets_of file
 
 -- the net of an input cell
-unfoldable pub reader_in : Cell → Reader
-reader_in Internal = Nothing
-reader_in (Input n) = Of n
-reader_in (Control on) = Nothing
-reader_in (ThreeState k n) = Nothing
-reader_in (TwoState n) = Nothing
-reader_in (OpenDrain n) = Nothing
+unfoldable pub reader_in : Cell → Option Net
+reader_in Internal = None
+reader_in (Input n) = Some n
+reader_in (Control on) = None
+reader_in (ThreeState k n) = None
+reader_in (TwoState n) = None
+reader_in (OpenDrain n) = None
 
 -- a set of nets with the net besides whose own word was read
 abbrev pub plus_read : (ℕ → Bool) → ℕ → ℕ → Bool

@@ -3,7 +3,6 @@
 
 ghost use Rattle.std.specs.Prelude.{◌≡◌, List, ℕ, ◌+◌, ◌*◌, ◌<◌, ◌≤◌, length};
 ghost use Rattle.rules.specs.Answers.{over};
-ghost use Rattle.base.specs.Tests as Base;
 ghost use Rattle.rules.specs.File.{Board, board_of, cells_of};
 ghost use Rattle.rules.specs.Marks.{byte_of};
 ghost use Rattle.words.specs.Sets.{net_words, member};
@@ -13,13 +12,6 @@ ghost use Rattle.marks.specs.Judging.{reader_in, plus_read, Readings, TestedBelo
 use cells::cell_at;
 use rules::{Cell, Mark, Net, Position};
 use words::NetSet;
-
-// An input cell with the net that it is on, or something else.
-#[derive(Clone, Copy)]
-pub enum Reader {
-    Of(Net),
-    Nothing,
-}
 
 // What the readings say of the nets: which have an input cell, which have one that read something
 // else than the net's own word, and whose own word a cell of another net read.
@@ -31,24 +23,21 @@ pub struct Tests {
 }
 
 // How many nets have which kind of mark.
-#[derive(Clone, Copy)]
+#[derive(Clone, Copy, Default)]
 pub struct Counts {
     pub pass: usize,
     pub fail: usize,
     pub unsure: usize,
 }
 
-// The input cell that a cell is.
-fn reader_of(cell: Cell) -> Reader
+// The net of an input cell; any other cell has none.
+#[tactic(auto, unfolding(crate::specs::Judging::reader_in))]
+fn reader_of(cell: Cell) -> Option<Net>
     ensures { result ≡ reader_in cell }
 {
     match cell {
-        Cell::Internal => Reader::Nothing,
-        Cell::Input(n) => Reader::Of(n),
-        Cell::Control(_) => Reader::Nothing,
-        Cell::ThreeState(_, _) => Reader::Nothing,
-        Cell::TwoState(_) => Reader::Nothing,
-        Cell::OpenDrain(_) => Reader::Nothing,
+        Cell::Input(net) => Some(net),
+        _ => None,
     }
 }
 
@@ -57,10 +46,10 @@ fn with_read(set: NetSet, entry: u16) -> NetSet
     requires { entry ≤ 64 * net_words }
     ensures { member result.words ≡ plus_read (member set.words) entry }
 {
-    if entry == 0 {
-        return set;
+    match entry.checked_sub(1) {
+        None => set,
+        Some(n) => set.with(Net(n)),
     }
-    set.with(Net(entry - 1))
 }
 
 // The tests as far as the cells below c go, with what the cell at c says besides.
@@ -70,27 +59,20 @@ fn add_reading(file: &[u8], table: &[u16], c: Position, tests: Tests) -> Tests
     requires tested_below { TestedBelow (board_of file.now) table.now c.0 tests }
     ensures { TestedBelow (board_of file.now) table.now (c.0 + 1) result }
 {
-    let reader = reader_of(cell_at(file, c));
-    let Reader::Of(net) = reader else {
+    let Some(net) = reader_of(cell_at(file, c)) else {
         return tests;
     };
     let entry = table[c.0 as usize];
     let seen = tests.seen.with(net);
-    let failed = tests.failed;
-    let twice = tests.twice;
     if entry == net.0 + 1 {
-        return Tests {
-            seen,
-            failed,
-            twice,
-        };
+        return Tests { seen, ..tests };
     }
-    let joined = failed.with(net);
-    let others = with_read(twice, entry);
+    let failed = tests.failed.with(net);
+    let twice = with_read(tests.twice, entry);
     Tests {
         seen,
-        failed: joined,
-        twice: others,
+        failed,
+        twice,
     }
 }
 
@@ -98,13 +80,11 @@ fn add_reading(file: &[u8], table: &[u16], c: Position, tests: Tests) -> Tests
 fn untested() -> Tests
     ensures { (b : Board) (readings : List ℕ) → TestedBelow b readings 0 result }
 {
-    let seen = NetSet::empty();
-    let failed = NetSet::empty();
-    let twice = NetSet::empty();
+    let none = NetSet::empty();
     Tests {
-        seen,
-        failed,
-        twice,
+        seen: none,
+        failed: none,
+        twice: none,
     }
 }
 
@@ -115,15 +95,14 @@ pub(crate) fn collect(file: &[u8], table: &[u16], cells: usize) -> Tests
     ensures { Tested (board_of file.now) table.now result }
 {
     let mut tests = untested();
-    let mut c = 0;
-    while c < cells {
+    for c in 0..cells {
         tests = add_reading(file, table, Position(c as u16), tests);
-        c += 1;
     }
     tests
 }
 
 // The table of marks, in its order: the first that is given.
+#[tactic(auto, unfolding(rules::specs::Marks::first_given, crate::specs::Judging::mark_for))]
 fn mark_for(unseen: bool, failed: bool, twice: bool) -> Mark
     ensures { result ≡ mark_for unseen failed twice }
 {
@@ -140,6 +119,7 @@ fn mark_for(unseen: bool, failed: bool, twice: bool) -> Mark
 }
 
 // The mark of net n.
+#[tactic(auto, unfolding(crate::specs::Judging::mark_in))]
 fn mark_of(tests: Tests, n: Net) -> Mark
     requires { n.0 < 64 * net_words }
     ensures { result ≡ mark_in tests n.0 }
@@ -150,7 +130,9 @@ fn mark_of(tests: Tests, n: Net) -> Mark
     mark_for(!seen, failed, twice)
 }
 
-// The table's byte for a mark.
+// The table's byte for a mark. A match and no `From`: the mark is crate rules', where its `From` would have to stand. And no `mark as u8`,
+// which would leave the table to the order in which rules declares the marks.
+#[tactic(auto, unfolding(rules::specs::Marks::byte_of))]
 fn byte_of(mark: Mark) -> u8
     ensures { result ≡ byte_of mark }
 {
@@ -162,25 +144,26 @@ fn byte_of(mark: Mark) -> u8
     }
 }
 
-// 1 where the test passes, else 0.
-fn digit(test: bool) -> usize
-    ensures { result ≡ Base.digit test }
-{
-    if test {
-        return 1;
-    }
-    0
-}
-
-// The counts with one mark byte more.
-fn count_byte(counts: Counts, byte: u8) -> Counts
+// The counts with one mark more.
+#[tactic(auto, unfolding(rules::specs::Marks::byte_of, crate::specs::Judging::one_more))]
+fn count_mark(counts: Counts, mark: Mark) -> Counts
     requires { CountsBounded counts }
-    ensures { result ≡ one_more counts byte }
+    ensures { result ≡ one_more counts (byte_of mark) }
 {
-    let pass = counts.pass + digit(byte == 0);
-    let fail = counts.fail + digit(byte == 1);
-    let unsure = counts.unsure + digit(1 < byte);
-    Counts { pass, fail, unsure }
+    match mark {
+        Mark::Pass => Counts {
+            pass: counts.pass + 1,
+            ..counts
+        },
+        Mark::Fail => Counts {
+            fail: counts.fail + 1,
+            ..counts
+        },
+        Mark::NotSeen | Mark::ReadTwice => Counts {
+            unsure: counts.unsure + 1,
+            ..counts
+        },
+    }
 }
 
 // The mark bytes of all nets, in the buffer from its start on, and how many there are of which kind.
@@ -189,17 +172,11 @@ pub(crate) fn write_marks(out: &mut [u8], nets: usize, tests: Tests) -> Counts
     requires nets_bound { nets ≤ 64 * net_words }
     ensures { Marked tests nets out.old out.new result }
 {
-    let mut counts = Counts {
-        pass: 0,
-        fail: 0,
-        unsure: 0,
-    };
-    let mut n = 0;
-    while n < nets {
-        let byte = byte_of(mark_of(tests, Net(n as u16)));
-        out[n] = byte;
-        counts = count_byte(counts, byte);
-        n += 1;
+    let mut counts = Counts::default();
+    for (n, byte) in out[..nets].iter_mut().enumerate() {
+        let mark = mark_of(tests, Net(n as u16));
+        *byte = byte_of(mark);
+        counts = count_mark(counts, mark);
     }
     counts
 }

@@ -1,6 +1,7 @@
 -- What a step's case tells of it, and a set of differing nets that change sides.
 use Prim.Native.Nat.{ℕ, zero, suc, ◌+◌, ◌*◌, ◌/◌, ◌≤◌, ◌<◌}
 use mathlib.Core.Path.{◌≡◌, refl, ◌∙◌, ap, ap₂, fun_ext}
+use mathlib.Core.Logic.{◌⊎◌, ⊎_elim}
 use mathlib.Core.Bool.{Bool, true, false, cond, xor, ◌&&◌, and-false}
 use native.Mathlib.Nat.{zero-mul, le_trans, div-le_self, mul-le-mul_left, mul-le-mul_right}
 use native.Mathlib.Omega.{arith}
@@ -56,13 +57,9 @@ changed-bounded p k s l = le_trans (mul-le-mul_right p.limit l) (mul-le-mul_left
 pub group-bounded : (p : Plan) (i : ℕ) → Small p → i < p.groups * p.wide → 1 + i / p.wide ≤ most_number * most_patterns
 group-bounded p i s l = let a = div-le_self i p.wide in omega (arith, size-bounded p s)
 
-pub group-base : (p : Plan) (i : ℕ) → 1 + i / p.wide ≡ (vector_of (bases_for p) (Base i)).group
+pub group-is : (p : Plan) (i : ℕ) (step : Step) → (step ≡ Base i) ⊎ ((t : ℕ) × (step ≡ Inserted i t)) → 1 + i / p.wide ≡ (vector_of (bases_for p) step).group
 unfolding vector_of bases_for
-group-base p i = omega arith
-
-pub group-inserted : (p : Plan) (i t : ℕ) → 1 + i / p.wide ≡ (vector_of (bases_for p) (Inserted i t)).group
-unfolding vector_of bases_for
-group-inserted p i t = omega arith
+group-is p i step h = ⊎_elim (λ (e : step ≡ Base i). rw e (omega arith)) (λ (r : (t : ℕ) × (step ≡ Inserted i t)). rw r.1 (omega arith)) h
 
 -- every step of a plan stands within it
 pub steps-within : (p : Plan) → Small p → (t : ℕ) → t < length (steps_of (bases_for p)) → Within p (get_or (steps_of (bases_for p)) t (Base 0))

@@ -4,7 +4,7 @@ use Prim.Native.Nat.{ℕ, zero, suc, ◌+◌, ◌*◌, ◌-◌, ◌≤◌, ◌<�
 use mathlib.Core.Path.{◌≡◌, refl, sym, ◌∙◌, ap, ap₂}
 use mathlib.Core.Logic.{⊎_elim}
 use mathlib.Core.Bool.{Bool}
-use native.Mathlib.Nat.{add-zero, zero-mul, one-mul, add-mul, le_trans, mul-le-mul_left, mul-le-mul_right, mul-add-mod_self_right, eq-or-lt_of_le}
+use native.Mathlib.Nat.{add-zero, zero-mul, one-mul, add-mul, le_trans, mul-le-mul_left, mul-le-mul_right, mul-add-mod_self_right}
 use native.Mathlib.Numerals.{add-one}
 use native.Mathlib.Omega.{arith}
 use lib.ListN.{length, get_or}
@@ -145,14 +145,6 @@ pub between_is : (p : Plan) → Small p → (i : ℕ) (old new : ℕ → Bool) �
 unfolding inserted_between full_after differs
 between_is p s i old new e h =
     ap₂ (λ (f g : ℕ → Bool). ceil (count (64 * net_words) (unlike f g)) p.limit - 1) e h ∙ ap (λ (n : ℕ). ceil n p.limit - 1) (changes-all p s i)
-
--- past part j of a round's vector there is a next part of the round
-pub round-on : (p : Plan) (t j left : ℕ) → t < round_of p → j < p.wide → full_start p j + left ≡ t → full_after p j < left → j + 1 < p.wide
-unfolding round_of
-round-on p t j left h l e m = ⊎_elim ended (λ (q : j + 1 < p.wide). q) (eq-or-lt_of_le (let q : j + 1 ≤ p.wide = omega arith in q))
-  where
-    ended : j + 1 ≡ p.wide → j + 1 < p.wide
-    ended q = absurd (omega (arith, full-next p j, ap (full_start p) q))
 
 -- vector t of a turn, in part j of its round, and what stands there
 module _ (p : Plan) (s : Small p) (turn t j left : ℕ) (h : turn * round_of p + t < length (steps_of (bases_for p))) (l : j < p.wide) (e : full_start p j + left ≡ t) where

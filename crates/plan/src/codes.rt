@@ -23,24 +23,19 @@ pub fn width(nets: usize) -> usize
     requires { nets ≤ 64 * net_words }
     ensures { result ≡ code_width nets }
 {
-    let last = (nets + 1) as u64;
-    (64 - u64::leading_zeros(last)) as usize
+    (usize::BITS - (nets + 1).leading_zeros()) as usize
 }
 
 // 63 digits of one value, and the highest of another.
 fn spread(lower: bool, top: bool) -> u64
     ensures { (k : ℕ) → k < 64 → bit result k ≡ cond (ltb k 63) lower top }
 {
-    if lower {
-        if top {
-            return 0xffffffffffffffff;
-        }
-        return 0x7fffffffffffffff;
+    match (lower, top) {
+        (true, true) => u64::MAX,
+        (true, false) => u64::MAX >> 1,
+        (false, true) => 1 << 63,
+        (false, false) => 0,
     }
-    if top {
-        return 0x8000000000000000;
-    }
-    0
 }
 
 // Pattern j + 1 of `wide` at the nets from 64 * w on: net 64 * w + k has code 64 * w + k + 1.
@@ -59,14 +54,14 @@ fn code_word(wide: usize, j: usize, w: usize) -> u64
 
 // Those of a word's nets, from 64 * w on, that are below `nets`.
 fn cut(word: u64, w: usize, nets: usize) -> u64
-    requires { (w < net_words) × (64 * w < nets) }
+    requires { w < net_words }
     ensures { (k : ℕ) → k < 64 → bit result k ≡ (ltb (64 * w + k) nets && bit word k) }
 {
-    let from = 64 * w;
-    if from + 64 <= nets {
+    let here = nets.saturating_sub(64 * w);
+    if 64 <= here {
         return word;
     }
-    ((1 << (nets - from)) - 1) & word
+    ((1 << here) - 1) & word
 }
 
 // Pattern j + 1 of `wide`: the nets below `nets` whose bit is 1.
@@ -75,10 +70,8 @@ pub(crate) fn pattern(nets: usize, wide: usize, j: usize) -> NetSet
     ensures { member result.words ≡ up_to nets (code_bit wide j) }
 {
     let mut words = [0; NET_WORDS];
-    let mut w = 0;
-    while 64 * w < nets {
-        words[w] = cut(code_word(wide, j, w), w, nets);
-        w += 1;
+    for (w, word) in words.iter_mut().enumerate() {
+        *word = cut(code_word(wide, j, w), w, nets);
     }
     NetSet { words }
 }
@@ -88,8 +81,5 @@ pub(crate) fn inserted(changes: usize, limit: usize) -> usize
     requires { (changes ≤ 64 * net_words) × (1 ≤ limit) × (limit ≤ most_number) }
     ensures { result ≡ ceil changes limit - 1 }
 {
-    if changes == 0 {
-        return 0;
-    }
-    (changes + (limit - 1)) / limit - 1
+    changes.div_ceil(limit).saturating_sub(1)
 }

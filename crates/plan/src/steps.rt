@@ -65,12 +65,10 @@ pub(crate) fn round(plan: Plan) -> usize
 {
     let mut old = base_values(plan, 0);
     let mut n = 0;
-    let mut j = 0;
-    while j < plan.wide {
-        let new = base_values(plan, j + 1);
+    for i in 0..plan.wide {
+        let new = base_values(plan, i + 1);
         n += 1 + inserted_between(old, new, plan.limit);
         old = new;
-        j += 1;
     }
     n
 }
@@ -90,19 +88,19 @@ fn step_in(plan: Plan, turn: usize, t: usize) -> Step
     requires t_in_bounds { turn * round_of plan + t < length (steps_of (bases_for plan)) }
     ensures { result ≡ get_or (steps_of (bases_for plan)) (turn * round_of plan + t) (Base 0) }
 {
-    let mut j = 0;
     let mut left = t;
-    let mut extra = full_after(plan, 0);
-    while extra < left {
+    for j in 0..plan.wide {
+        let i = turn * plan.wide + j;
+        if left == 0 {
+            return Step::Base(i);
+        }
+        let extra = full_after(plan, j);
+        if left <= extra {
+            return Step::Inserted(i, left);
+        }
         left -= extra + 1;
-        j += 1;
-        extra = full_after(plan, j);
     }
-    let i = turn * plan.wide + j;
-    if left == 0 {
-        return Step::Base(i);
-    }
-    Step::Inserted(i, left)
+    unreachable!()
 }
 
 // Step t.

@@ -47,7 +47,6 @@ pub fn group_of(plan: Plan, step: Step) -> usize
     ensures { result ≡ (vector_of (bases_for plan) step).group }
 {
     match step {
-        Step::Base(i) => 1 + i / plan.wide,
-        Step::Inserted(i, _) => 1 + i / plan.wide,
+        Step::Base(i) | Step::Inserted(i, _) => 1 + i / plan.wide,
     }
 }

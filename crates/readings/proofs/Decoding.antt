@@ -1,19 +1,19 @@
 -- The code that a cell reads in the first group's base vectors: that of the net whose own word it reads.
 use Prim.Native.Nat.{ℕ, zero, suc, ◌+◌, ◌*◌, ◌-◌, ◌/◌, ◌%◌, ◌^◌, ◌≤◌, ◌<◌}
 use mathlib.Core.Path.{◌≡◌, refl, sym, ◌∙◌, ap, ap₂, subst}
-use mathlib.Core.Logic.{⊎_elim}
 use mathlib.Core.Bool.{Bool, true, cond, xor}
 use mathlib.Core.List.{List}
 use native.Mathlib.Nat.{mod-eq_of_lt, div-eq_of_lt, div-one, two-pow-succ, sub-zero}
 use native.Mathlib.Numerals.{add-one}
 use native.Mathlib.Omega.{arith}
-use borrow.Author.Tests.{lt-ltb, le-ltb}
+use borrow.Author.Tests.{lt-ltb}
 use lib.Dec.{ltb, eqb}
+use Rattle.std.proofs.lemmas.Bool.Decides.{nat_tests}
 use lib.ListN.{length}
 use lib.Pow.{pow_mono, shr-shr}
 use Rattle.base.specs.Digits.{bit}
 use Rattle.base.specs.Tests.{digit}
-use Rattle.base.proofs.BoolLaws.{alike, fails-not, order}
+use Rattle.base.proofs.BoolLaws.{alike, fails-not}
 use Rattle.base.proofs.DigitLaws.{digit-bounded}
 use Rattle.base.proofs.TestLaws.{all-at}
 use Rattle.rules.specs.Rows.{row_bytes, row_bit}
@@ -104,11 +104,7 @@ module _ (p : Plan) (capture : List ℕ) (cells bytes : ℕ) (k : Captured p cap
 
 -- no entry is above the number of nets
 pub own-bounded : (nets code : ℕ) → cond (ltb nets code) 0 code ≤ nets
-own-bounded nets code =
-    ⊎_elim
-    (λ (l : nets < code). rw (lt-ltb nets code l) (omega arith))
-    (λ (l : code ≤ nets). rw (le-ltb nets code l) l)
-    (order nets code)
+own-bounded nets code = grind (arith, nat_tests)
 
 pub captured : (p : Plan) (capture : List ℕ) (cells bytes : ℕ) → Captured p capture cells (row_bytes cells) → bytes ≡ row_bytes cells → Captured p capture cells bytes
 captured p capture cells bytes k e = subst (Captured p capture cells) (sym e) k

@@ -1,5 +1,5 @@
 -- Byte by byte: the cells that are left after two rows.
-use Prim.Native.Nat.{ℕ, zero, suc, ◌+◌, ◌*◌, ◌/◌, ◌%◌, ◌^◌, ◌≤◌, ◌<◌}
+use Prim.Native.Nat.{ℕ, ◌+◌, ◌*◌, ◌/◌, ◌%◌, ◌≤◌, ◌<◌}
 use mathlib.Core.Path.{◌≡◌, refl, sym, ◌∙◌, ap}
 use mathlib.Core.Logic.{⊎_elim}
 use mathlib.Core.Bool.{Bool, true, false, not, ◌&&◌, ◌||◌, and-true, true≢false}
@@ -10,24 +10,13 @@ use lib.Bits.{bit_and, bit_xor}
 use lib.ListN.{length, get_or, drop, set, length-set}
 use lib.Seq.{get_or-set_same, get_or-set_other, set-get_or, get_or-drop}
 use Rattle.base.specs.Digits.{bit, word}
-use Rattle.base.specs.Tests.{any, digit}
+use Rattle.base.specs.Tests.{any}
 use Rattle.base.proofs.DigitLaws.{word_same, word-bits, bit_word}
 use Rattle.base.proofs.BoolLaws.{order}
 use Rattle.base.proofs.WordLaws.{bit-and, bit-xor, bit-zero}
 use Rattle.rules.specs.File.{byte_at, byte_values}
 use Rattle.rules.specs.Rows.{row_bit}
 use Rattle.readings.specs.Readings.{stray, staying, stray_at, Left, Lent}
-
--- a net that changes allows an entry that names it, and no other
-pub stray-none : (changing : ℕ → Bool) (entry : ℕ) → entry ≡ 0 → true ≡ stray changing entry
-unfolding stray
-stray-none changing zero e = refl
-stray-none changing (suc n) e = absurd (omega arith)
-
-pub stray-named : (changing : ℕ → Bool) (entry n : ℕ) (h : Bool) → entry ≡ suc n → h ≡ changing n → not h ≡ stray changing entry
-unfolding stray
-stray-named changing zero n h e q = absurd (omega arith)
-stray-named changing (suc m) n h e q = let s : m ≡ n = omega arith in rw s (ap not q)
 
 -- where no digit is both left and unlike, all stay
 all_stay :
@@ -56,19 +45,7 @@ pub byte-stays :
 byte-stays left j unlike changing entries l e =
     sym (set-get_or left j 0) ∙ ap (set left j) (all_stay (get_or left j 0) unlike changing entries l e)
 
--- digit by digit
-pub word_next : (i kept r : ℕ) (f : ℕ → Bool) (s : Bool) → kept ≡ word i f → s ≡ f i → r ≡ kept + digit s * 2 ^ i → r ≡ word (i + 1) f
-unfolding word
-word_next i kept r f s k e h = rw (add-one i) (h ∙ rw (k, e))
-
-pub word-start : (f : ℕ → Bool) → 0 ≡ word 0 f
-unfolding word
-word-start f = refl
-
 -- a byte more
-pub left-none : {lost : ℕ → Bool} (before : List ℕ) → Left lost before 0 before
-left-none before = record { long = refl; done = λ c l. absurd (omega arith); rest = λ c l. refl }
-
 module _
     (lost : ℕ → Bool)
     (before after : List ℕ)

@@ -1,66 +1,53 @@
 -- A table that is written entry by entry.
-use Prim.Native.Nat.{ℕ, ◌+◌, ◌/◌, ◌≤◌, ◌<◌}
-use mathlib.Core.Path.{◌≡◌, refl, ◌∙◌, ap, subst}
-use mathlib.Core.Logic.{⊎_elim}
+use Prim.Native.Nat.{ℕ, ◌+◌, ◌-◌, ◌/◌, ◌≤◌, ◌<◌}
+use mathlib.Core.Path.{◌≡◌, refl, sym, ◌∙◌, ap, subst}
+use mathlib.Core.Logic.{◌≢◌}
 use mathlib.Core.List.{List}
-use native.Mathlib.Numerals.{add-one}
 use native.Mathlib.Omega.{arith}
-use lib.ListN.{length, get_or, drop, set, length-set, length-drop}
+use mathlib.Core.List.{◌++◌}
+use borrow.Author.Count.{below_more}
+use lib.ListN.{length, get_or, take, drop, set, length-set, length-drop, length-append, get_or-append}
+use Rattle.std.proofs.lemmas.List.{get_or-take, get_or-append_right, length-take-le}
 use lib.Seq.{get_or-set_same, get_or-set_other, get_or-drop}
 use Rattle.base.specs.Digits.{ceil}
-use Rattle.base.proofs.BoolLaws.{below_suc}
 use Rattle.rules.specs.Rows.{row_bytes}
-use Rattle.readings.specs.Readings.{Mapped, Scanned, Entries}
+use Rattle.readings.specs.Readings.{Mapped, MappedBy, Scanned, Entries}
 
--- entry by entry: of a table with room for so many cells, the entries of those below n are mapped
-pub record Mapping (f : ℕ → ℕ → ℕ) (before : List ℕ) (cells n : ℕ) (after : List ℕ) : Type 0 where
-  pub room : cells ≤ length before
-  pub upto : n ≤ cells
-  pub so_far : Mapped f before n after
+-- entry by entry, in the part of a table that `map_entries` lends to its loop
+module _ {P : ℕ → ℕ → ℕ → Type 0} where
+  pub mapped-none : (before : List ℕ) → MappedBy P before 0 before
+  mapped-none before = record { long = refl; done = λ c l. absurd (omega arith); rest = λ c l. refl }
 
-pub mapping-none : {f : ℕ → ℕ → ℕ} {before : List ℕ} {cells : ℕ} → cells ≤ length before → Mapping f before cells 0 before
-mapping-none room =
-    record {
-      room = room;
-      upto = omega arith;
-      so_far = record { long = refl; done = λ c l. absurd (omega arith); rest = λ c l. refl };
-    }
+  -- the next entry is still as it was
+  pub entry_old : (table after : List ℕ) (n c : ℕ) → MappedBy P (take n table) c after → c < n → get_or table c 0 ≡ get_or after c 0
+  entry_old table after n c m l = sym (m.rest c (omega arith) ∙ get_or-take n table c 0 l)
 
-module _ {f : ℕ → ℕ → ℕ} {before after : List ℕ} {cells n : ℕ} (m : Mapping f before cells n after) where
-  pub mapping-long : length after ≡ length before
-  mapping-long = m.so_far.long
-
-  -- the next entry is in the table, and as low as all were
-  pub entry_in : n < cells → n < length after
-  entry_in l = let room = m.room in omega (arith, mapping-long)
-
-  -- it is still as it was
-  entry_old : get_or after n 0 ≡ get_or before n 0
-  entry_old = m.so_far.rest n (omega arith)
-
-  pub entry-bounded : (most : ℕ) → Entries most cells before → n < cells → get_or after n 0 ≤ most
-  entry-bounded most h l = rw entry_old (h.entries-bounded n l)
-
-  pub mapping-more : (x : ℕ) → n < cells → x ≡ f n (get_or after n 0) → Mapping f before cells (n + 1) (set after n x)
-  mapping-more x l h =
+  pub mapped-more :
+      {before after : List ℕ} {n : ℕ} → MappedBy P before n after → n < length before → (x : ℕ) → P n (get_or after n 0) x → MappedBy P before (n + 1) (set after n x)
+  mapped-more {before} {after} {n} m l x h =
+      let in_after : n < length after = omega (arith, m.long) in
       record {
-        room = m.room;
-        upto = omega arith;
-        so_far = record {
-          long = length-set after n x ∙ mapping-long;
-          done = λ c q. ⊎_elim
-              (λ (s : c ≡ n). rw s (get_or-set_same after n x 0 (entry_in l) ∙ h ∙ ap (f n) entry_old))
-              (λ (s : c < n). get_or-set_other after n c x 0 (λ t. omega arith) ∙ m.so_far.done c s)
-              (below_suc (rw (add-one n) at q));
-          rest = λ c q. get_or-set_other after n c x 0 (λ t. omega arith) ∙ m.so_far.rest c (omega arith);
-        };
+        long = length-set after n x ∙ m.long;
+        done = below_more _ n
+            (λ c s. let ne : c ≢ n = omega arith in rw get_or-set_other (m.done c s))
+            (rw (get_or-set_same after n x 0 in_after) (subst (λ (e : ℕ). P n e x) (m.rest n (omega arith)) h));
+        rest = λ c q. get_or-set_other after n c x 0 (λ t. omega arith) ∙ m.rest c (omega arith);
       }
 
-  pub mapping-all : cells ≤ n → Mapped f before cells after
-  mapping-all l =
-      let upto = m.upto in
-      let e : n ≡ cells = omega arith in
-      subst (λ (x : ℕ). Mapped f before x after) e m.so_far
+  -- with all n entries, the rest of the table stands behind them
+  pub mapped-all : (table after : List ℕ) (n : ℕ) → MappedBy P (take n table) n after → n ≤ length table → MappedBy P table n (after ++ drop n table)
+  mapped-all table after n m l =
+      let long : length after ≡ n = m.long ∙ length-take-le n table l in
+      record {
+        long = simp (length-append, length-drop) (omega arith);
+        done = λ c q. rw (get_or-append after (drop n table) 0 c (omega arith), ← get_or-take n table c 0 q) (m.done c q);
+        rest = λ c q. get_or-append_right after (drop n table) n c 0 long q ∙ get_or-drop n table (c - n) 0 ∙ ap (λ (i : ℕ). get_or table i 0) (omega arith);
+      }
+
+-- where what P allows is f's value, the entries are f's
+pub mapped_as :
+    {P : ℕ → ℕ → ℕ → Type 0} {f : ℕ → ℕ → ℕ} {before after : List ℕ} {n : ℕ} → MappedBy P before n after → ((c e x : ℕ) → P c e x → x ≡ f c e) → Mapped f before n after
+mapped_as m h = record { long = m.long; done = λ c l. h _ _ _ (m.done c l); rest = m.rest }
 
 -- a cell's byte lies in the row
 pub byte_inside : (capture : List ℕ) (at cells c : ℕ) → Scanned capture at cells → c < cells → at + c / 8 < length capture
@@ -106,11 +93,3 @@ mapped-id before n = record { long = refl; done = λ c l. refl; rest = λ c l. r
 pub entries_below : (most n m : ℕ) (table : List ℕ) → Entries most m table → n ≤ m → Entries most n table
 entries_below most n m table h l =
     record { long = (let a = h.long in omega arith); entries-bounded = λ c q. h.entries-bounded c (omega arith) }
-
--- and so are those from a cell on
-pub entries_from : (most first n m : ℕ) (table : List ℕ) → Entries most m table → first + n ≤ m → Entries most n (drop first table)
-entries_from most first n m table h l =
-    record {
-      long = rw length-drop (let a = h.long in omega arith);
-      entries-bounded = λ c q. rw get_or-drop (h.entries-bounded (first + c) (omega arith));
-    }

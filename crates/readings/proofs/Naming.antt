@@ -1,5 +1,5 @@
 -- The steps together: what is left of the codes names for each cell the net whose own word it reads.
-use Prim.Native.Nat.{ℕ, zero, suc, ◌+◌, ◌*◌, ◌/◌, ◌%◌, ◌≤◌, ◌<◌}
+use Prim.Native.Nat.{ℕ, suc, ◌+◌, ◌*◌, ◌/◌, ◌%◌, ◌≤◌, ◌<◌}
 use mathlib.Core.Path.{◌≡◌, refl, sym, ◌∙◌, ap}
 use mathlib.Core.Bool.{Bool, true, false, cond, not, ◌&&◌}
 use mathlib.Core.Logic.{⊎_elim}
@@ -9,6 +9,7 @@ use native.Mathlib.Omega.{arith}
 use borrow.Author.Tests.{eqb-true, eq-eqb, le-ltb}
 use lib.Dec.{ltb, eqb}
 use lib.ListN.{length, get_or, replicate, length-replicate}
+use Rattle.std.proofs.lemmas.List.{get_or-replicate}
 use Rattle.base.specs.Digits.{bit, ceil, word}
 use Rattle.base.proofs.DigitLaws.{bit_word}
 use Rattle.base.proofs.BoolLaws.{same_test, order}
@@ -24,11 +25,6 @@ use Rattle.readings.proofs.Decoding.{own-bounded, reads-code}
 use Rattle.readings.proofs.Repeating.{left-reads, reads-left}
 
 -- at first all cells are left
-full_at : (n i : ℕ) → i < n → ◌≡◌ {A = ℕ} (get_or (replicate n 255) i 0) 255
-full_at zero i l = absurd (omega arith)
-full_at (suc n) zero l = refl
-full_at (suc n) (suc i) l = full_at n i (omega arith)
-
 full-bit : (k : ℕ) → k < 8 → bit 255 k ≡ true
 unfolding word
 full-bit k l = bit_word 8 (λ i. true) k l
@@ -36,7 +32,7 @@ full-bit k l = bit_word 8 (λ i. true) k l
 pub all_left : (n c : ℕ) → c < 8 * n → row_bit (replicate n 255) 0 c ≡ true
 unfolding row_bit byte_at
 all_left n c l =
-    ap (λ (x : ℕ). bit x (c % 8)) (full_at n (0 + c / 8) (omega arith)) ∙ full-bit (c % 8) (omega arith)
+    ap (λ (x : ℕ). bit x (c % 8)) (get_or-replicate n (0 + c / 8) 255 0 (omega arith)) ∙ full-bit (c % 8) (omega arith)
 
 -- the entries beside those of cells are still 0, so there is one for each bit of a row
 pub own-lent :

@@ -72,6 +72,12 @@ pub record Mapped (f : ℕ → ℕ → ℕ) (before : List ℕ) (n : ℕ) (after
   pub done : (c : ℕ) → c < n → get_or after c 0 ≡ f c (get_or before c 0)
   pub rest : (c : ℕ) → n ≤ c → get_or after c 0 ≡ get_or before c 0
 
+-- the entries of the cells below n have become such as P allows of the cell and what they were, the others are as before
+pub record MappedBy (P : ℕ → ℕ → ℕ → Type 0) (before : List ℕ) (n : ℕ) (after : List ℕ) : Type 0 where
+  pub long : length after ≡ length before
+  pub done : (c : ℕ) → c < n → P c (get_or before c 0) (get_or after c 0)
+  pub rest : (c : ℕ) → n ≤ c → get_or after c 0 ≡ get_or before c 0
+
 -- a bit for each cell in `left`, as in a row: of the cells below n those stay that are not lost, the others are as before
 pub record Left (lost : ℕ → Bool) (before : List ℕ) (n : ℕ) (after : List ℕ) : Type 0 where
   pub long : length after ≡ length before

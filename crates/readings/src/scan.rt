@@ -18,6 +18,7 @@ fn digit_at(byte: u8, i: usize) -> bool
 }
 
 // What the cell at c read in the row from `at` on.
+#[tactic(auto, unfolding(rules::specs::Rows::row_bit, rules::specs::File::byte_at))]
 pub(crate) fn seen(capture: &[u8], at: usize, c: Position) -> bool
     requires { at + c.0 / 8 < length capture.now }
     ensures { result ≡ row_bit capture.now at c.0 }
@@ -27,14 +28,15 @@ pub(crate) fn seen(capture: &[u8], at: usize, c: Position) -> bool
 }
 
 // A cell of this entry may not change its reading where these nets change: it names none of them.
+#[tactic(auto, unfolding(crate::specs::Readings::stray))]
 fn stray(entry: u16, changing: NetSet) -> bool
     requires { entry ≤ 64 * net_words }
     ensures { result ≡ stray (member changing.words) entry }
 {
-    if entry == 0 {
-        return true;
+    match entry.checked_sub(1) {
+        None => true,
+        Some(n) => !changing.has(Net(n)),
     }
-    !changing.has(Net(entry - 1))
 }
 
 // A byte below 2 ^ i, with digit i if it is set.
@@ -54,25 +56,18 @@ fn stays(left: u8, unlike: u8, i: usize, entry: u16, changing: NetSet) -> bool
     requires bound { entry ≤ 64 * net_words }
     ensures { result ≡ (bit left i && not (bit unlike i && stray (member changing.words) entry)) }
 {
-    if digit_at(left, i) {
-        if digit_at(unlike, i) {
-            return !stray(entry, changing);
-        }
-        return true;
-    }
-    false
+    digit_at(left, i) && !(digit_at(unlike, i) && stray(entry, changing))
 }
 
 // The byte of cells that are left, where these bits differ between two rows and these are the cells' entries.
+#[tactic(auto, using(base::proofs::DigitLaws::word_lt), unfolding(base::specs::Digits::word, crate::specs::Readings::staying))]
 fn sift(left: u8, unlike: u8, entries: &[u16], changing: NetSet) -> u8
     requires { Entries (64 * net_words) 8 entries.now }
     ensures { result ≡ word 8 (staying left unlike (member changing.words) entries.now) }
 {
     let mut kept = 0;
-    let mut i = 0;
-    while i < 8 {
+    for i in 0..8 {
         kept = with_digit(kept, i, stays(left, unlike, i, entries[i], changing));
-        i += 1;
     }
     kept
 }
@@ -111,11 +106,8 @@ pub(crate) fn check_rows(
     requires lent { Lent bytes table.now left.old }
     ensures { Left (stray_at capture.now rows.at rows.other (member changing.words) table.now) left.old (8 * bytes) left.new }
 {
-    let mut j = 0;
-    while j < bytes {
+    for j in 0..bytes {
         let unlike = capture[rows.at + j] ^ capture[rows.other + j];
-        let first = 8 * j;
-        sift_byte(left, j, unlike, &table[first..], changing);
-        j += 1;
+        sift_byte(left, j, unlike, &table[8 * j..], changing);
     }
 }

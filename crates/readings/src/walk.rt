@@ -7,7 +7,7 @@ ghost use Rattle.rules.specs.Refusals.{most_vectors};
 ghost use Rattle.words.specs.Sets.{member, unlike};
 ghost use Rattle.readings.specs.Readings.{period, stray_at, stray_after, stray_in, other_later, lost, Mapped, Entries, Left, Scanned, Captured, Rowed, Later, Lent, Part, Read};
 
-use crate::codes::{own_codes, read_codes};
+use crate::codes::{map_entries, own_codes, read_codes};
 use crate::scan::{Rows, check_rows, seen};
 use plan::steps::{Plan, base_values, extra_after, total};
 use plan::values::mixed;
@@ -71,13 +71,11 @@ fn check_inserted(
     let old = base_values(plan, span.i);
     let new = base_values(plan, span.i + 1);
     let mut values = old;
-    let mut k = 0;
-    while k < span.extra {
+    for k in 0..span.extra {
         let next = mixed(old, new, (k + 1) * plan.limit);
         let t = span.start + k;
         check_next(capture, Place { t, bytes }, values, next, table, left);
         values = next;
-        k += 1;
     }
     let t = span.start + span.extra;
     check_next(capture, Place { t, bytes }, values, new, table, left);
@@ -104,13 +102,11 @@ fn check_first(capture: &[u8], plan: Plan, bytes: usize, table: &[u16], left: &m
     ensures left { Left (λ c. any plan.wide (stray_in plan bytes capture.now table.now c)) left.old (8 * bytes) left.new }
 {
     let mut t = 0;
-    let mut i = 0;
-    while i < plan.wide {
+    for i in 0..plan.wide {
         let extra = extra_after(plan, i);
         let span = Span { i, extra, start: t };
         check_part(capture, plan, span, bytes, table, left);
         t += 1 + extra;
-        i += 1;
     }
     t
 }
@@ -129,14 +125,12 @@ fn check_later(
     ensures { Left (λ c. any (vectors - first) (other_later first bytes capture.now c)) left.old (8 * bytes) left.new }
 {
     let none = NetSet::empty();
-    let mut u = 0;
-    while first + u < vectors {
+    for u in 0..vectors.saturating_sub(first) {
         let rows = Rows {
             at: (first + u) * bytes,
             other: u * bytes,
         };
         check_rows(capture, rows, bytes, none, table, left);
-        u += 1;
     }
 }
 
@@ -151,27 +145,21 @@ fn check_all(capture: &[u8], plan: Plan, bytes: usize, table: &[u16], left: &mut
     check_later(capture, first, vectors, bytes, table, left);
 }
 
-// An entry, where its cell is left.
-fn entry_left(left: bool, entry: u16) -> u16
-    ensures { result ≡ cond left entry 0 }
-{
-    if left {
-        return entry;
-    }
-    0
-}
-
 // The entries of the cells that are left; the others become 0.
 fn clear(cells: usize, left: &[u8], table: &mut [u16])
     requires scanned { Scanned left.now 0 cells }
     requires cells_in_bounds { cells ≤ length table.old }
     ensures { Mapped (λ c entry. cond (row_bit left.now 0 c) entry 0) table.old cells table.new }
 {
-    let mut c = 0;
-    while c < cells {
-        table[c] = entry_left(seen(left, 0, Position(c as u16)), table[c]);
-        c += 1;
-    }
+    map_entries(
+        cells,
+        table,
+        |c, entry| if seen(left, 0, Position(c as u16)) {
+            entry
+        } else {
+            0
+        },
+    );
 }
 
 // For each cell 1 + the net whose own word it reads in every vector, or 0, in a table that holds

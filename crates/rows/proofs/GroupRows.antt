@@ -1,53 +1,30 @@
 -- The groups' rows, row by row, in a buffer.
-use Prim.Native.Nat.{ℕ, zero, suc, ◌+◌, ◌*◌, ◌≤◌, ◌<◌}
-use mathlib.Core.Path.{◌≡◌, refl, sym, ◌∙◌, ap, ap₂}
+use Prim.Native.Nat.{ℕ, zero, suc, ◌+◌, ◌*◌, ◌-◌, ◌≤◌, ◌<◌}
+use mathlib.Core.Path.{◌≡◌, sym, ◌∙◌, ap, ap₂}
 use mathlib.Core.Bool.{Bool}
-use mathlib.Core.List.{List, ◌++◌}
-use native.Mathlib.Nat.{add-sub_cancel, suc-mul, zero-mul, le_trans, mul-le-mul_left, mul-le-mul_right}
-use native.Mathlib.Numerals.{add-one}
+use mathlib.Core.List.{List}
+use native.Mathlib.Nat.{suc-mul, zero-mul, le_trans, mul-le-mul_left, mul-le-mul_right}
+use native.Mathlib.Numerals.{sub-one}
 use native.Mathlib.Omega.{arith}
-use lib.ListN.{length, length-append, length-drop}
+use lib.ListN.{length, length-append}
 use Rattle.base.specs.Digits.{ceil}
 use Rattle.base.proofs.BoolLaws.{fails-if}
 use Rattle.rules.specs.Answers.{over}
 use Rattle.rules.specs.Rows.{row_bytes, row_of}
 use Rattle.rules.specs.File.{Board, board_of, cells_of, most_number, number_values}
-use Rattle.rules.specs.Groups.{selected, earlier, on_in, group_row, group_rows}
+use Rattle.rules.specs.Groups.{on_in, group_row, group_rows}
 use Rattle.rules.specs.Refusals.{judge, board_checks, most_cells, most_bytes, Accepted}
 use Rattle.rules.proofs.RowLaws.{row-length}
 use Rattle.rules.proofs.Selection.{sound}
 use Rattle.rules.proofs.GroupsDriven.{on-cell}
-use Rattle.words.specs.Sets.{either}
-use Rattle.select.specs.Turns.{listed}
-use Rattle.select.proofs.Passing.{earlier_more, group-is}
 use Rattle.rows.specs.Room.{placed, Cells}
 use Rattle.rows.proofs.PlacedLaws.{over-more}
-
--- the rows of groups 1 to g stand in the buffer
-pub record Written (b : Board) (g : ℕ) (before after : List ℕ) : Type 0 where
-  pub long : length after ≡ length before
-  pub so_far : after ≡ over (group_rows b g) before
 
 length-rows : (b : Board) (g : ℕ) → length (group_rows b g) ≡ g * row_bytes b.size
 unfolding group_rows group_row
 length-rows b zero = sym (zero-mul (row_bytes b.size))
 length-rows b (suc g) =
     length-append (group_rows b g) (group_row b (suc g)) ∙ ap₂ ◌+◌ (length-rows b g) (row-length b.size (on_in b (suc g))) ∙ sym (suc-mul g (row_bytes b.size))
-
-length_over : (bytes buffer : List ℕ) → length bytes ≤ length buffer → length (over bytes buffer) ≡ length buffer
-length_over bytes buffer h = rw (length-append, length-drop) (omega arith)
-
-pub written_none : (b : Board) (before : List ℕ) → Written b 0 before before
-unfolding group_rows
-written_none b before = record { long = refl; so_far = refl }
-
--- the group after g, and those up to it
-pub on-next : (b : Board) (g : ℕ) (on : ℕ → Bool) → on ≡ listed (selected b (g + 1) (earlier b g)) → on ≡ on_in b (g + 1)
-on-next b g on e = group-is b (g + 1) on (omega arith) (rw (add-sub_cancel g 1) e)
-
-pub earlier-next : (b : Board) (g : ℕ) (on f more : ℕ → Bool) → on ≡ listed (selected b (g + 1) (earlier b g)) → f ≡ listed (earlier b g) → more ≡ either on f → more ≡ listed (earlier b (g + 1))
-earlier-next b g on f more e h m =
-    earlier_more b (g + 1) on f more (omega arith) (rw (add-sub_cancel g 1) e) (rw (add-sub_cancel g 1) h) m
 
 -- the control cells that are on are cells of the board
 pub on-own : (file : List ℕ) (g size : ℕ) (on : ℕ → Bool) → judge (board_checks file) ≡ Accepted → size ≡ cells_of file → on ≡ on_in (board_of file) g → Cells size on
@@ -63,43 +40,34 @@ pub row_fits : (g groups bytes row at long : ℕ) → g < groups → bytes ≡ r
 row_fits g groups bytes row at long l e h a =
     omega (arith, rows_fit g groups row long l h, suc-mul g row, a ∙ ap (λ (x : ℕ). g * x) e)
 
+-- the rows of groups 1 to g stand in the buffer, where those before g do and the row of g is placed behind them
 pub written_next :
     (b : Board) (g groups bytes at size : ℕ) (on : ℕ → Bool) (before after more : List ℕ) →
-    Written b g before after →
-    g < groups →
+    0 < g →
+    g ≤ groups →
+    after ≡ over (group_rows b (g - 1)) before →
+    at ≡ (g - 1) * bytes →
     bytes ≡ row_bytes size →
     groups * row_bytes size ≤ length before →
-    at ≡ g * bytes →
     size ≡ b.size →
-    on ≡ on_in b (g + 1) →
+    on ≡ on_in b g →
     more ≡ placed at (row_of size on) after →
-    Written b (g + 1) before more
+    more ≡ over (group_rows b g) before
 unfolding group_rows group_row
-written_next b g groups bytes at size on before after more w l e h a s o m =
-    rw (add-one g)
-    (record { long = ap length all ∙ length_over (group_rows b (suc g)) before (omega (arith, fits, length-rows b (suc g))); so_far = all })
+written_next b zero groups bytes at size on before after more p l w a e h s o m = absurd (omega arith)
+written_next b (suc g) groups bytes at size on before after more p l w a e h s o m =
+    m
+    ∙ ap₂ (λ (x : ℕ) (r : List ℕ). placed x r after) start (ap₂ row_of s o)
+    ∙ ap (placed (length (group_rows b g)) (group_row b (suc g))) (rw sub-one at w)
+    ∙ over-more (group_rows b g) (group_row b (suc g)) before room
   where
-    fits : suc g * row_bytes b.size ≤ length before
-    fits = rw (← s) (rows_fit g groups (row_bytes size) (length before) l h)
-
-    row : row_of size on ≡ group_row b (suc g)
-    row = ap₂ row_of s (rw (add-one g) at o)
-
     start : at ≡ length (group_rows b g)
-    start = a ∙ ap (λ (x : ℕ). g * x) (e ∙ ap row_bytes s) ∙ sym (length-rows b g)
+    start = (rw sub-one at a) ∙ ap (λ (x : ℕ). g * x) (e ∙ ap row_bytes s) ∙ sym (length-rows b g)
 
     room : length (group_rows b g) + length (group_row b (suc g)) ≤ length before
-    room = omega (arith, fits, length-rows b g, row-length b.size (on_in b (suc g)), suc-mul g (row_bytes b.size))
-
-    all : more ≡ over (group_rows b g ++ group_row b (suc g)) before
-    all =
-        m
-        ∙ ap₂ (λ (x : ℕ) (r : List ℕ). placed x r after) start row
-        ∙ ap (placed (length (group_rows b g)) (group_row b (suc g))) w.so_far
-        ∙ over-more (group_rows b g) (group_row b (suc g)) before room
-
-pub written_all : {b : Board} {g groups : ℕ} {before after : List ℕ} → Written b g before after → g ≡ groups → after ≡ over (group_rows b groups) before
-written_all {b} {before = before} w e = w.so_far ∙ ap (λ (x : ℕ). over (group_rows b x) before) e
+    room =
+        let fits : suc g * row_bytes b.size ≤ length before = rw (← s) (rows_fit g groups (row_bytes size) (length before) l h) in
+        omega (arith, fits, length-rows b g, row-length b.size (on_in b (suc g)), suc-mul g (row_bytes b.size))
 
 -- a place is a small number
 pub place-small : (g bytes : ℕ) → g ≤ most_number → bytes ≤ most_bytes → g * bytes + bytes ≤ number_values * most_bytes

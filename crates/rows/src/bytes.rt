@@ -13,7 +13,7 @@ pub fn row_bytes(cells: usize) -> usize
     requires { cells ≤ most_number }
     ensures { result ≡ row_bytes cells }
 {
-    (cells + 7) / 8
+    cells.div_ceil(8)
 }
 
 // Byte j of a row: cells 8 j to 8 j + 7, the lowest in the least bit.
@@ -33,9 +33,7 @@ pub(crate) fn write_row(out: &mut [u8], at: usize, cells: usize, set: CellSet)
 {
     let count = row_bytes(cells);
     let words = set.words;
-    let mut j = 0;
-    while j < count {
-        out[at + j] = row_byte(&words, j);
-        j += 1;
+    for (j, byte) in out[at..at + count].iter_mut().enumerate() {
+        *byte = row_byte(&words, j);
     }
 }

@@ -29,9 +29,7 @@ fn write_rows(
     let bytes = row_bytes(cells);
     let mut earlier = CellSet::empty();
     let mut at = 0;
-    let mut g = 0;
-    while g < groups {
-        g += 1;
+    for g in 1..=groups {
         let on = selected(file, table, found, g, earlier);
         write_row(out, at, cells, on);
         earlier = on.union(earlier);

@@ -19,41 +19,18 @@ use rules::{Cell, Position};
 use select::groups::group;
 use words::{CELL_WORDS, CellSet, NetSet, loops};
 
-// "a control cell has its on value when on, else the other"
-fn control_bit(lit: bool, on: bool) -> bool
-    ensures { result ≡ cond lit on (not on) }
-{
-    if lit {
-        return on;
-    }
-    !on
-}
-
-// An open-drain output "in its turn .. is loaded with the net's value, otherwise with 1".
-fn drain_bit(turn: bool, value: bool) -> bool
-    ensures { result ≡ cond turn value true }
-{
-    if turn {
-        return value;
-    }
-    true
-}
-
 // The bit of the cell at p, where these control cells are on and these nets have value 1.
 fn cell_bit(cell: Cell, p: Position, on: &[u64], nets: &[u64]) -> bool
     requires { (p.0 < 64 * length on.now) × (out_net cell < 64 * length nets.now) }
     ensures { result ≡ bit_of (member on.now p.0) (member nets.now) cell }
 {
     match cell {
-        Cell::Internal => false,
-        Cell::Input(_) => false,
-        Cell::Control(value) => control_bit(loops::has(on, p.0 as usize), value),
-        Cell::ThreeState(_, n) => loops::has(nets, n.0 as usize),
-        Cell::TwoState(n) => loops::has(nets, n.0 as usize),
-        Cell::OpenDrain(n) => drain_bit(
-            loops::has(on, p.0 as usize),
-            loops::has(nets, n.0 as usize),
-        ),
+        Cell::Internal | Cell::Input(_) => false,
+        // "A control cell has its on value when on, else the other".
+        Cell::Control(value) => loops::has(on, p.0 as usize) == value,
+        Cell::ThreeState(_, n) | Cell::TwoState(n) => loops::has(nets, n.0 as usize),
+        // "In its turn .. loaded with the net's value, otherwise with 1".
+        Cell::OpenDrain(n) => !loops::has(on, p.0 as usize) || loops::has(nets, n.0 as usize),
     }
 }
 
@@ -75,10 +52,8 @@ fn row_cells(file: &[u8], cells: usize, on: CellSet, nets: NetSet) -> CellSet
     ensures { member result.words ≡ up_to cells (bit_at (board_of file.now) (member on.words) (member nets.words)) }
 {
     let mut words = [0u64; CELL_WORDS];
-    let mut c = 0;
-    while c < cells {
+    for c in 0..cells {
         add_bit(file, &on.words, &nets.words, Position(c as u16), &mut words);
-        c += 1;
     }
     CellSet { words }
 }

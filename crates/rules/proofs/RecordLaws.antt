@@ -9,10 +9,11 @@ use native.Mathlib.Omega.{arith}
 use borrow.Author.Tests.{eqb-true, eqb-false, ltb-true}
 use lib.Dec.{eqb, ltb}
 use Rattle.base.proofs.BoolLaws.{left, right, clashes, order}
-use Rattle.rules.specs.File.{by_kind, means, none, kind_of, on_value_of, control_of, net_of, kind_at, on_at, control_at, net_at, nets_of, of_kind2, table_of, record_of, cell_of, is_broken}
+use Rattle.rules.specs.File.{by_kind, means, none, kind_of, on_value_of, control_of, net_of, kind_at, on_at, control_at, net_at, nets_of, of_kind2, table_of, record_of, cell_of}
 use Rattle.rules.specs.declared.Cell.{Cell}
 use Rattle.rules.specs.declared.Cell.TheVariants.{Internal, Input, Control, ThreeState, TwoState, OpenDrain}
-use Rattle.std.specs.Prelude.{Option, Some, None}
+use Rattle.std.specs.Bool.{then_some}
+use Rattle.std.specs.Prelude.{Option, Some, None, is_none}
 
 -- the kinds whose record is to have a control, and those whose record is to have a net
 abbrev pub switches : ℕ → Bool
@@ -29,6 +30,11 @@ pub record Says (kind on control net : ℕ) (switched connected : Bool) (cell : 
   pub net-is : net_of cell ≡ net
   pub has-control : switches kind ≡ true → switched ≡ true
   pub has-net : connects kind ≡ true → connected ≡ true
+
+-- what the library's `then_some` gives
+pub some-means : (fits : Bool) (cell : Cell) → then_some fits cell ≡ means fits cell
+some-means true cell = refl
+some-means false cell = refl
 
 -- the cell that a row of the table means, if any
 means-cell : (fits : Bool) (x cell : Cell) → means fits x ≡ Some cell → (fits ≡ true) × (x ≡ cell)
@@ -116,11 +122,11 @@ SaysAt file p cell =
     Says (kind_at file p) (on_at file p) (control_at file p) (net_at file p) (of_kind2 file (control_at file p)) (ltb (net_at file p) (nets_of file)) cell
 
 -- where check 6 passes, the cell at a position says its record's bytes
-pub record-says : (file : List ℕ) (p : ℕ) → is_broken (record_of file p) ≡ false → SaysAt file p (cell_of (record_of file p))
+pub record-says : (file : List ℕ) (p : ℕ) → is_none (record_of file p) ≡ false → SaysAt file p (cell_of (record_of file p))
 unfolding record_of
 record-says file p e = go (record_of file p) refl e
   where
-    go : (r : Option Cell) → record_of file p ≡ r → is_broken r ≡ false → SaysAt file p (cell_of r)
+    go : (r : Option Cell) → record_of file p ≡ r → is_none r ≡ false → SaysAt file p (cell_of r)
     go (Some cell) q h = table-says _ _ _ _ _ _ cell q
     go None q h = absurd (false≢true (sym h))
 
@@ -136,23 +142,23 @@ plain_record kind on control net =
     (Some (OpenDrain (record { 0 = net })))
     None
 
-kept : (fits : Bool) (cell : Cell) → is_broken (means fits cell) ≡ false → means fits cell ≡ Some cell
+kept : (fits : Bool) (cell : Cell) → is_none (means fits cell) ≡ false → means fits cell ≡ Some cell
 kept true cell h = refl
 kept false cell h = absurd (false≢true (sym h))
 
 -- one choice for both sides
 choose :
     (a : Bool) (x y u v : Option Cell) →
-    (is_broken x ≡ false → x ≡ u) →
-    (is_broken y ≡ false → y ≡ v) →
-    is_broken (cond a x y) ≡ false →
+    (is_none x ≡ false → x ≡ u) →
+    (is_none y ≡ false → y ≡ v) →
+    is_none (cond a x y) ≡ false →
     cond a x y ≡ cond a u v
 choose true x y u v f g h = f h
 choose false x y u v f g h = g h
 
 plain-table :
     (kind on control net : ℕ) (switched connected : Bool) →
-    is_broken (table_of kind on control net switched connected) ≡ false →
+    is_none (table_of kind on control net switched connected) ≡ false →
     table_of kind on control net switched connected ≡ plain_record kind on control net
 unfolding table_of
 plain-table kind on control net switched connected =
@@ -165,7 +171,7 @@ plain-table kind on control net switched connected =
 
 pub plain-record :
     (file : List ℕ) (p : ℕ) →
-    is_broken (record_of file p) ≡ false →
+    is_none (record_of file p) ≡ false →
     record_of file p ≡ plain_record (kind_at file p) (on_at file p) (control_at file p) (net_at file p)
 unfolding record_of
 plain-record file p = plain-table _ _ _ _ _ _

@@ -1,5 +1,6 @@
 -- "The board file": bytes, blocks, the two sums, the header, the records, and the board that they say. Assumes nothing.
-use Rattle.std.specs.Prelude.{Option, Some, None, ℕ, ◌+◌, ◌*◌, ◌-◌, ◌/◌, ◌%◌, min, Bool, true, false, cond, ◌&&◌, List, [], ◌∷◌, ltb, eqb, length, get_or, take, drop}
+use Rattle.std.specs.Option.{unwrap_or}
+use Rattle.std.specs.Prelude.{Option, Some, None, is_none, ℕ, ◌+◌, ◌*◌, ◌-◌, ◌/◌, ◌%◌, min, Bool, true, false, cond, ◌&&◌, List, [], ◌∷◌, ltb, eqb, length, get_or, take, drop}
 use Rattle.base.specs.Tests.{all}
 use Rattle.rules.specs.declared.Cell.{Cell}
 use Rattle.rules.specs.declared.Cell.TheVariants.{Internal, Input, Control, ThreeState, TwoState, OpenDrain}
@@ -200,16 +201,11 @@ net_of (OpenDrain n) = n.0
 
 -- a broken record has no cell; the check of records refuses it before anything asks
 abbrev pub cell_of : Option Cell → Cell
-cell_of (Some cell) = cell
-cell_of None = Internal
-
-abbrev pub is_broken : Option Cell → Bool
-is_broken (Some cell) = false
-is_broken None = true
+cell_of means = unwrap_or means Internal
 
 -- "a record breaks the table above"
 unfoldable pub broken_at : List ℕ → ℕ → Bool
-broken_at file p = is_broken (record_of file p)
+broken_at file p = is_none (record_of file p)
 
 -- the board: C, N, SSOL, and the cell at each position. All later definitions are over a board, never over bytes
 pub record Board : Type 0 where

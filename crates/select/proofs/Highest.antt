@@ -1,17 +1,17 @@
 -- A pass need only look at the highest driver of each control cell. The idea: there the control cell is settled, which is to say marked where
 -- the pass could turn it on; its nets have one degree, and what is marked stays so. Thus nothing happens at its lower drivers.
-use Prim.Native.Nat.{ℕ, zero, suc, ◌+◌, ◌<◌, ◌≤◌}
+use Prim.Native.Nat.{ℕ, zero, suc, ◌<◌, ◌≤◌}
 use mathlib.Core.Path.{◌≡◌, refl, sym, ◌∙◌, ap}
 use mathlib.Core.Logic.{⊎_elim}
 use mathlib.Core.Bool.{Bool, true, false, cond, not, ◌&&◌, ◌||◌, and-false, true≢false}
 use mathlib.Core.List.{List, ◌∷◌}
 use native.Mathlib.Nat.{eq-or-lt_of_le}
-use native.Mathlib.Numerals.{add-one}
 use native.Mathlib.Omega.{arith}
 use borrow.Author.Tests.{eqb-true, eqb-false, eq-eqb}
 use lib.Dec.{eqb}
+use Rattle.std.proofs.Math.Dec.{eqb-suc-suc, eqb-zero-suc}
+use Rattle.std.specs.Prelude.{Option, None, Some, MatchOption}
 use Rattle.base.proofs.BoolLaws.{left, right, both, or_left, or_right, below_suc}
-use Rattle.std.specs.Prelude.{None, Option, Some}
 use Rattle.rules.specs.File.{Board, board_of, cells_of, net_of}
 use Rattle.rules.specs.Drivers.{driver_at, controlled, control_for, meets, Of}
 use Rattle.rules.specs.Groups.{marked, turn, pass}
@@ -21,12 +21,11 @@ use Rattle.rules.proofs.PassLaws.{open_at}
 use Rattle.rules.proofs.Selection.{Sound, degrees-equal}
 use Rattle.rules.proofs.NetSetLaws.{driver-own}
 use Rattle.rules.proofs.DriverLaws.{is-driver, no-driver, control-below}
-use Rattle.chains.specs.Table.{ControlCell, head_in}
+use Rattle.chains.specs.Table.{ControlCell, entry_of, head_in}
 use Rattle.chains.specs.Chains.{last, keyed, Chains}
 use Rattle.chains.proofs.Chaining.{last-le, last-member, keyed-control}
 use Rattle.chains.proofs.Walks.{cell-fits}
-use Rattle.select.specs.declared.turns.Pass.{Pass}
-use Rattle.select.specs.Turns.{wanted_at, wanted_in}
+use Rattle.select.specs.Turns.{wanted_in}
 use Rattle.select.specs.Highest.{highest, highest_drivers, pass_over}
 
 -- the last number that passes is none below another that does
@@ -64,20 +63,20 @@ driver-above b c l x h = go (last b.size p) refl
         let higher : c < d = ⊎_elim (λ (q : c ≡ d). absurd (other (e ∙ ap suc (sym q)))) (λ q. q) (below_suc (rw e at above)) in
         (d, higher, omega (arith, last-le b.size p), left (controlled b d) _ key, eqb-true _ _ (right (controlled b d) key))
 
-module _ (b : Board) (s : Sound b) (which : Pass) (g : ℕ) (allowed : ℕ → Bool) where
+module _ (b : Board) (s : Sound b) (wanted allowed : ℕ → Bool) where
   -- where the pass may turn a control cell on
   abbrev opens : ℕ → Bool
-  opens c = open_at b (wanted_in b which g) allowed c
+  opens c = open_at b (wanted_in b wanted) allowed c
 
   abbrev after : ℕ → List ℕ → List ℕ
-  after c on = turn b (wanted_in b which g) allowed c on
+  after c on = turn b (wanted_in b wanted) allowed c on
 
   -- the pass over the positions of a list, and over those below c
   abbrev over : List ℕ → List ℕ → List ℕ
-  over cs on = pass_over b (wanted_in b which g) allowed cs on
+  over cs on = pass_over b (wanted_in b wanted) allowed cs on
 
   abbrev whole : ℕ → List ℕ → List ℕ
-  whole c on = pass b (wanted_in b which g) allowed c on
+  whole c on = pass b (wanted_in b wanted) allowed c on
 
   -- each control cell that the pass could turn on at c or above is marked
   abbrev pub Settled : ℕ → List ℕ → Type 0
@@ -87,13 +86,13 @@ module _ (b : Board) (s : Sound b) (which : Pass) (g : ℕ) (allowed : ℕ → B
   open-alike : (c d : ℕ) → c < b.size → d < b.size → controlled b d ≡ true → control_for b d ≡ control_for b c → opens c ≡ true → opens d ≡ true
   unfolding wanted_in
   open-alike c d l m x e o =
-      let cw = left (controlled b c && wanted_in b which g (net_of (b.cell c))) _ o in
+      let cw = left (controlled b c && wanted_in b wanted (net_of (b.cell c))) _ o in
       let is = left (controlled b c) _ cw in
       let own = s.checked.own-control c l is in
       let d-net = s.checked.own-net d m (or_left _ x) in
       let c-net = s.checked.own-net c l (or_left _ is) in
       let same = degrees-equal b s (control_for b c) _ _ (record { on-board = own.0; controlling = own.1 }) d-net c-net (rw e at (driver-own b d m x)) (driver-own b c l is) in
-      both (both x (ap (wanted_at which g) same ∙ right (controlled b c) cw)) (ap allowed e ∙ right (controlled b c && wanted_in b which g (net_of (b.cell c))) o)
+      both (both x (ap (wanted) same ∙ right (controlled b c) cw)) (ap allowed e ∙ right (controlled b c && wanted_in b wanted (net_of (b.cell c))) o)
 
   -- a position leaves marked what is marked, and its own control cell, where open
   turn-keeps : (c : ℕ) (on : List ℕ) (k : ℕ) → marked b on k ≡ true → marked b (after c on) k ≡ true
@@ -127,7 +126,7 @@ module _ (b : Board) (s : Sound b) (which : Pass) (g : ℕ) (allowed : ℕ → B
       go : (a : Bool) → opens c ≡ a → on ≡ cond (opens c && not (marked b on (control_for b c))) (control_for b c ∷ on) on
       go false e = rw e
       go true e =
-          let d = driver-above b c l (left (controlled b c) _ (left (controlled b c && wanted_in b which g (net_of (b.cell c))) _ e)) h in
+          let d = driver-above b c l (left (controlled b c) _ (left (controlled b c && wanted_in b wanted (net_of (b.cell c))) _ e)) h in
           let m = settled d.0 d.1 d.2 (open-alike c d.0 l d.2 d.3 d.4 e) in
           rw (ap (marked b on) (sym d.4) ∙ m, and-false (opens c))
 
@@ -152,9 +151,13 @@ unfolding highest
 highest-none b c e = rw (no-driver b c e)
 
 module _ (file t : List ℕ) (chains : Chains file ControlCell t) (c : ℕ) (l : c < cells_of file) (k : Position) (n : Net) (e : driver_at (board_of file) c ≡ Of k n) where
-  pub highest-told : (held : ℕ) → held ≡ head_in ControlCell t k.0 → eqb held (c + 1) ≡ highest (board_of file) c
+  pub highest-told : (top : Option Position) → entry_of top ≡ head_in ControlCell t k.0 → (r : Bool) → MatchOption top (r ≡ false) (λ p. r ≡ eqb p.0 c) → r ≡ highest (board_of file) c
   unfolding highest board_of
-  highest-told held w =
+  highest-told top w r h =
       let d = is-driver (board_of file) c k n e in
       let own = cell-fits file chains.checked k.0 (control-below file chains.checked c l k n e) in
-      rw (d.0, d.1, w, chains.linked.head k.0 own, add-one c)
+      rw (d.0, d.1) (go top (w ∙ chains.linked.head k.0 own) h)
+    where
+      go : (top : Option Position) → entry_of top ≡ last (cells_of file) (keyed (board_of file) ControlCell k.0) → MatchOption top (r ≡ false) (λ p. r ≡ eqb p.0 c) → r ≡ eqb (last (cells_of file) (keyed (board_of file) ControlCell k.0)) (suc c)
+      go None e f = rw (← e, eqb-zero-suc) f
+      go (Some p) e f = rw (← e, eqb-suc-suc) f

@@ -19,7 +19,6 @@ use Rattle.rules.proofs.Selection.{sound}
 use Rattle.chains.specs.Table.{spare_from, spare_in}
 use Rattle.chains.proofs.Walks.{cells_fit}
 use Rattle.chains.proofs.Entering.{spare-control, spare-counts}
-use Rattle.select.specs.declared.turns.Pass.{Pass}
 use Rattle.select.specs.Turns.{wanted_in, Ready}
 use Rattle.select.specs.Highest.{highest, highest_drivers, pass_over, backwards, Ordered, Order}
 use Rattle.select.proofs.Highest.{pass-highest, settled-none}
@@ -124,10 +123,10 @@ module _ (b : Board) (wanted allowed : ℕ → Bool) (t : List ℕ) where
   over-step (suc i) c on h e = rw (e, sub-one)
 
 -- all of it is the pass
-module _ (file t : List ℕ) (found : ℕ) (o : Order file t found) (which : Pass) (g : ℕ) (allowed : ℕ → Bool) (on : List ℕ) where
-  pub over-all : pass_over (board_of file) (wanted_in (board_of file) which g) allowed (backwards t found) on ≡ pass (board_of file) (wanted_in (board_of file) which g) allowed (cells_of file) on
+module _ (file t : List ℕ) (found : ℕ) (o : Order file t found) (wanted allowed : ℕ → Bool) (on : List ℕ) where
+  pub over-all : pass_over (board_of file) (wanted_in (board_of file) wanted) allowed (backwards t found) on ≡ pass (board_of file) (wanted_in (board_of file) wanted) allowed (cells_of file) on
   unfolding board_of
   over-all =
       let s = sound file o.ready.accepted in
-      ap (λ (cs : List ℕ). pass_over (board_of file) (wanted_in (board_of file) which g) allowed cs on) o.entries
-      ∙ pass-highest (board_of file) s which g allowed (cells_of file) on (omega arith) (settled-none (board_of file) s which g allowed on)
+      ap (λ (cs : List ℕ). pass_over (board_of file) (wanted_in (board_of file) wanted) allowed cs on) o.entries
+      ∙ pass-highest (board_of file) s wanted allowed (cells_of file) on (omega arith) (settled-none (board_of file) s wanted allowed on)

@@ -1,18 +1,17 @@
 -- Laws of one position of a pass and of a group, over the sets that hold what is on.
 use Prim.Native.Nat.{ℕ, zero, suc, ◌-◌, ◌*◌, ◌<◌, ◌≤◌}
 use mathlib.Core.Path.{◌≡◌, refl, sym, ◌∙◌, ap, subst, fun_ext}
-use mathlib.Core.Bool.{Bool, true, false, cond, not, ◌&&◌, ◌||◌, and-false}
+use mathlib.Core.Bool.{Bool, true, false, cond, not, ◌&&◌, ◌||◌}
 use mathlib.Core.List.{List, [], ◌∷◌}
 use native.Mathlib.Numerals.{sub-one}
 use native.Mathlib.Omega.{arith}
-use lib.Dec.{eqb}
+use lib.Dec.{eqb, ltb, leb}
 use Rattle.base.specs.Lists.{has}
 use Rattle.base.proofs.ListLaws.{has-append}
 use Rattle.std.specs.Prelude.{None, Option, Some}
 use Rattle.rules.specs.File.{Board, board_of, cells_of, nets_of, net_of}
-use Rattle.rules.specs.Drivers.{driver_at, controlled, drives, Of}
+use Rattle.rules.specs.Drivers.{driver_at, controlled, drives}
 use Rattle.rules.specs.Groups.{marked, turn, pass, first_pass, second_pass, selected, earlier, group, on_in}
-use Rattle.rules.specs.declared.Net.{Net}
 use Rattle.rules.specs.declared.Position.{Position}
 use Rattle.rules.specs.declared.Driver.{Driver}
 use Rattle.rules.proofs.Shape.{laid, shaped}
@@ -20,9 +19,8 @@ use Rattle.rules.proofs.DriverLaws.{is-driver, no-driver, net-below}
 use Rattle.words.specs.Sets.{net_words, nothing, either, plus, meets_in}
 use Rattle.chains.specs.Table.{count_in}
 use Rattle.chains.proofs.Brought.{known-net}
-use Rattle.select.specs.declared.turns.Pass.{Pass}
-use Rattle.select.specs.declared.turns.Pass.TheVariants.{First, Second}
-use Rattle.select.specs.Turns.{wanted_at, wanted_in, allowed_in, stopping, turn_to, covered_by, reached, joined, listed, Turned, Holds, Ready}
+use Rattle.chains.proofs.SharingLaws.{control-fits}
+use Rattle.select.specs.Turns.{Tells, wanted_in, stopping, stop_by, turn_to, covered_by, reached, joined, listed, Turned, Holds, Ready}
 use Rattle.select.proofs.Largest.{degree-held}
 use Rattle.select.proofs.Marking.{covered-marked, marked-reached}
 
@@ -61,71 +59,54 @@ cond-not x y true = refl
 cond-not x y false = refl
 
 -- what one position does is what the pass does where it stops
-stops : (b : Board) (k : Position) (n : Net) (at : Bool) (on : List ℕ) → turn_to b (cond at (Of k n) None) on ≡ cond (at && not (marked b on k.0)) (k.0 ∷ on) on
+stops : (b : Board) (d : Driver) (at : Bool) (on : List ℕ) → turn_to b (cond at (Some d) None) on ≡ cond (at && not (marked b on d.control.0)) (d.control.0 ∷ on) on
 unfolding turn_to
-stops b k n true on = sym (cond-not (k.0 ∷ on) on (marked b on k.0))
-stops b k n false on = refl
+stops b d true on = sym (cond-not (d.control.0 ∷ on) on (marked b on d.control.0))
+stops b d false on = refl
 
 module _ (b : Board) (wanted allowed : ℕ → Bool) (c : ℕ) (on : List ℕ) where
-  turn_by : (driver : Driver) → driver_at b c ≡ driver → turn_to b (stopping wanted allowed driver) on ≡ turn b wanted allowed c on
+  turn_by : (driver : Option Driver) → driver_at b c ≡ driver → turn_to b (stopping wanted allowed driver) on ≡ turn b wanted allowed c on
   unfolding turn stopping turn_to
   turn_by None e = rw (no-driver b c e)
-  turn_by (Of k n) e = let d = is-driver b c k n e in rw (d.0, d.1, d.2) (stops b k n (wanted n.0 && allowed k.0) on)
+  turn_by (Some d) e =
+      let is = is-driver b c d.control d.net e in
+      rw (is.0, is.1, is.2) (stops b d (wanted d.net.0 && allowed d.control.0) on)
 
-  pub turn_is : turn_to b (stopping wanted allowed (driver_at b c)) on ≡ turn b wanted allowed c on
-  turn_is = turn_by (driver_at b c) refl
-
--- whether the pass stops at the driver that was found
-module _ (wanted allowed : ℕ → Bool) (found at : Driver) (e : found ≡ at) where
-  pub stop-none : found ≡ None → found ≡ stopping wanted allowed at
-  unfolding stopping
-  stop-none d = rw (← e, d)
-
-  module _ (k : Position) (n : Net) (d : found ≡ Of k n) where
-    pub stop-here : wanted n.0 ≡ true → allowed k.0 ≡ true → Of k n ≡ stopping wanted allowed at
-    unfolding stopping
-    stop-here w a = rw (← e, d, w, a)
-
-    pub stop-unwanted : wanted n.0 ≡ false → None ≡ stopping wanted allowed at
-    unfolding stopping
-    stop-unwanted w = rw (← e, d, w)
-
-    pub stop-barred : allowed k.0 ≡ false → None ≡ stopping wanted allowed at
-    unfolding stopping
-    stop-barred a = rw (← e, d, a, and-false (wanted n.0))
-
--- and what it stops at stands there
-kept : (k j : Position) (n m : Net) (at : Bool) → cond at (Of j m) None ≡ Of k n → Of j m ≡ Of k n
-kept k j n m true e = e
-kept k j n m false e = cc
-
-pub stopped : (wanted allowed : ℕ → Bool) (at : Driver) (k : Position) (n : Net) → stopping wanted allowed at ≡ Of k n → at ≡ Of k n
-unfolding stopping
-stopped wanted allowed (Of j m) k n e = kept k j n m (wanted m.0 && allowed j.0) e
-stopped wanted allowed None k n e = e
+  -- where it stops at this driver, or at none
+  pub turn_is : (driver : Option Driver) → driver ≡ stopping wanted allowed (driver_at b c) → turn_to b driver on ≡ turn b wanted allowed c on
+  turn_is driver e = ap (λ (d : Option Driver). turn_to b d on) e ∙ turn_by (driver_at b c) refl
 
 -- what the pass does there
-module _ (b : Board) (driver : Driver) (on : List ℕ) where
-  pub to-nothing : driver ≡ None → on ≡ turn_to b driver on
+module _ (b : Board) (on : List ℕ) where
+  pub to-nothing : on ≡ turn_to b None on
   unfolding turn_to
-  to-nothing d = rw d
+  to-nothing = refl
 
-  module _ (k : Position) (n : Net) (d : driver ≡ Of k n) where
-    pub to-marked : marked b on k.0 ≡ true → on ≡ turn_to b driver on
+  module _ (d : Driver) where
+    pub to-marked : marked b on d.control.0 ≡ true → on ≡ turn_to b (Some d) on
     unfolding turn_to
-    to-marked m = rw (d, m)
+    to-marked m = rw m
 
-    pub to-joined : marked b on k.0 ≡ reached b on k.0 → joined b on k.0 ≡ turn_to b driver on
+    pub to-joined : marked b on d.control.0 ≡ reached b on d.control.0 → joined b on d.control.0 ≡ turn_to b (Some d) on
     unfolding turn_to joined
-    to-joined m = rw (d, m)
+    to-joined m = rw m
+
+-- where no driver stands the pass does not stop
+pub stop-none : (wanted allowed : ℕ → Bool) (at : Option Driver) → None ≡ at → None ≡ stopping wanted allowed at
+unfolding stopping
+stop-none wanted allowed at e = rw (← e)
 
 -- what the table and the sets say of a driver of an accepted board
-module _ (file t : List ℕ) (ready : Ready file t) (c : ℕ) (l : c < cells_of file) (k : Position) (n : Net) (e : driver_at (board_of file) c ≡ Of k n) where
-  pub wanted-told : (which : Pass) (g held : ℕ) (r a : Bool) → held ≡ count_in t n.0 → r ≡ wanted_at which g held → r ≡ a → wanted_in (board_of file) which g n.0 ≡ a
-  unfolding wanted_in
-  wanted-told which g held r a h w is =
-      let own = degree-held file t ready n.0 (net-below file ready.by-control.checked c l k n e) in
-      ap (wanted_at which g) (sym (h ∙ own)) ∙ sym w ∙ is
+module _ (file t : List ℕ) (ready : Ready file t) (c : ℕ) (l : c < cells_of file) (d : Driver) (e : driver_at (board_of file) c ≡ Some d) where
+  -- the pass's test tells whether it stops there
+  pub stop-told :
+      (wanted allowed : ℕ → Bool) (gives : ℕ → Position → Bool → Type 0) → Tells gives wanted allowed →
+      (held : ℕ) (r a : Bool) → held ≡ count_in t d.net.0 → gives held d.control r → r ≡ a → cond a (Some d) None ≡ stop_by (board_of file) wanted allowed c
+  unfolding stopping wanted_in
+  stop-told wanted allowed gives tells held r a h w is =
+      let own = degree-held file t ready d.net.0 (net-below file ready.by-control.checked c l d.control d.net e) in
+      let fits = control-fits file c (record { checked = ready.by-control.checked; below = l }) d.control d.net e in
+      rw (e, ← own, ← h, ← tells held d.control r fits w, is)
 
   -- its nets are below 256, so whether its control cell is marked is told by its nets
   known : (x : ℕ) → x < cells_of file → controlled (board_of file) x ≡ true → net_of ((board_of file).cell x) < nets_of file
@@ -134,18 +115,18 @@ module _ (file t : List ℕ) (ready : Ready file t) (c : ℕ) (l : c < cells_of 
   nets-bounded : nets_of file ≤ 64 * net_words
   nets-bounded = let f = (laid file (shaped file ready.by-control.checked)).nets.at_most in omega arith
 
-  pub marked-told : (on : List ℕ) (f : ℕ → Bool) (r : Bool) → f ≡ covered_by (board_of file) on → r ≡ f n.0 → r ≡ true → marked (board_of file) on k.0 ≡ true
+  pub marked-told : (on : List ℕ) (f : ℕ → Bool) (r : Bool) → f ≡ covered_by (board_of file) on → r ≡ f d.net.0 → r ≡ true → marked (board_of file) on d.control.0 ≡ true
   unfolding board_of
-  marked-told on f r h w is =
-      let d = is-driver (board_of file) c k n e in
-      let m = covered-marked (board_of file) nets-bounded known on c l d.0 (ap (covered_by (board_of file) on) d.2 ∙ ap (λ (s : ℕ → Bool). s n.0) (sym h) ∙ sym w ∙ is) in
-      ap (marked (board_of file) on) (sym d.1) ∙ m
+  marked-told on f r h w told-true =
+      let is = is-driver (board_of file) c d.control d.net e in
+      let m = covered-marked (board_of file) nets-bounded known on c l is.0 (ap (covered_by (board_of file) on) is.2 ∙ ap (λ (s : ℕ → Bool). s d.net.0) (sym h) ∙ sym w ∙ told-true) in
+      ap (marked (board_of file) on) (sym is.1) ∙ m
 
-  pub reached-told : (on : List ℕ) → marked (board_of file) on k.0 ≡ reached (board_of file) on k.0
+  pub reached-told : (on : List ℕ) → marked (board_of file) on d.control.0 ≡ reached (board_of file) on d.control.0
   unfolding board_of
   reached-told on =
-      let d = is-driver (board_of file) c k n e in
-      rw d.1 at (marked-reached (board_of file) nets-bounded known on c l d.0)
+      let is = is-driver (board_of file) c d.control d.net e in
+      rw is.1 at (marked-reached (board_of file) nets-bounded known on c l is.0)
 
 -- a group at its start, and at its end
 pub holds-none : (b : Board) (turned : Turned) → turned.on ≡ nothing → turned.covered ≡ nothing → Holds b [] turned
@@ -154,11 +135,11 @@ holds-none b turned e f = record { on-are = e; covered-are = f }
 
 -- the second pass after the first, where f are the earlier groups' control cells
 abbrev passes : Board → ℕ → (ℕ → Bool) → ℕ → List ℕ
-passes b g f size = pass b (wanted_in b Second g) (allowed_in Second f) size (pass b (wanted_in b First g) (allowed_in First f) size [])
+passes b g f size = pass b (wanted_in b (λ d. ltb d g)) (λ k. true) size (pass b (wanted_in b (λ d. leb g d)) (λ k. not (f k)) size [])
 
 pub selected-is : (b : Board) (g : ℕ) (used : List ℕ) (f : ℕ → Bool) (size : ℕ) (turned : Turned) → f ≡ listed used → size ≡ b.size
     → Holds b (passes b g f size) turned → turned.on ≡ listed (selected b g used)
-unfolding selected first_pass second_pass wanted_in wanted_at allowed_in
+unfolding selected first_pass second_pass wanted_in
 selected-is b g used f size turned e s h =
     h.on-are ∙ ap (λ (x : ℕ). listed (passes b g f x)) s ∙ ap (λ (t : ℕ → Bool). listed (passes b g t b.size)) e
 

@@ -9,7 +9,6 @@ use mathlib.Core.List.{List, [], ◌∷◌}
 use native.Mathlib.Numerals.{add-one}
 use native.Mathlib.Omega.{arith}
 use borrow.Author.Tests.{lt-ltb, le-ltb}
-use lib.Dec.{ltb}
 use lib.ListN.{length, get_or, drop}
 use Rattle.base.specs.Lists.{has}
 use Rattle.base.proofs.BoolLaws.{order, below_suc}

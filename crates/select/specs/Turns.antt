@@ -1,11 +1,10 @@
 -- The two passes' tests, and what the sets of a pass hold: the control cells that are on, and their nets.
-use Rattle.std.specs.Prelude.{ℕ, ◌*◌, ◌<◌, ◌≡◌, Bool, true, false, cond, not, ◌&&◌, ◌||◌, List, [], ◌∷◌, ltb, leb, length, None, Option, Some}
+use Rattle.std.specs.Prelude.{ℕ, ◌*◌, ◌<◌, ◌≡◌, Bool, false, cond, ◌&&◌, ◌||◌, List, [], ◌∷◌, length, None, Option, Some}
 use Rattle.base.specs.Lists.{has}
 use Rattle.rules.specs.File.{Board, board_of, cells_of}
-use Rattle.rules.specs.Drivers.{driver_at, degree, drives, Of}
+use Rattle.rules.specs.Drivers.{driver_at, degree, drives}
 use Rattle.rules.specs.Groups.{marked, pass}
-use Rattle.rules.specs.Refusals.{judge, board_checks, Accepted}
-use Rattle.rules.specs.declared.Net.{Net}
+use Rattle.rules.specs.Refusals.{judge, board_checks, most_cells, Accepted}
 use Rattle.rules.specs.declared.Position.{Position}
 use Rattle.rules.specs.declared.Driver.{Driver}
 use Rattle.words.specs.Sets.{net_words, member, meets_in}
@@ -13,44 +12,40 @@ use Rattle.words.specs.declared.NetSet.{NetSet}
 use Rattle.chains.specs.Table.{ControlCell, table_size}
 use Rattle.chains.specs.Chains.{Chains}
 use Rattle.chains.specs.Counts.{Counted}
-use Rattle.select.specs.declared.turns.Pass.{Pass}
-use Rattle.select.specs.declared.turns.Pass.TheVariants.{First, Second}
-use Rattle.select.specs.declared.turns.Rule.{Rule}
 
--- "whose net has degree g or more"; in the second pass "degree below g"
-unfoldable pub wanted_at : Pass → ℕ → ℕ → Bool
-wanted_at First g d = leb g d
-wanted_at Second g d = ltb d g
+-- a pass's test of a driver, by its net's degree and its control cell, may be asked on each board
+abbrev pub Callable : (ℕ → Position → Type 0) → Type 0
+Callable may = (degree : ℕ) (k : Position) → k.0 < most_cells → may degree k
 
-unfoldable pub wanted_in : Board → Pass → ℕ → ℕ → Bool
-wanted_in b which g n = wanted_at which g (degree b n)
+-- and it tells whether nets of that degree are wanted, and that control cell is allowed
+abbrev pub Tells : (ℕ → Position → Bool → Type 0) → (ℕ → Bool) → (ℕ → Bool) → Type 0
+Tells gives wanted allowed = (degree : ℕ) (k : Position) (stops : Bool) → k.0 < most_cells → gives degree k stops → stops ≡ (wanted degree && allowed k.0)
 
--- "was on in no earlier group"; in the second pass "earlier groups don't matter"
-unfoldable pub allowed_in : Pass → (ℕ → Bool) → ℕ → Bool
-allowed_in First used k = not (used k)
-allowed_in Second used k = true
+-- net n's degree is wanted
+unfoldable pub wanted_in : Board → (ℕ → Bool) → ℕ → Bool
+wanted_in b wanted n = wanted (degree b n)
 
 -- a driver, if the pass stops at it: its net is wanted, and its control cell allowed
-unfoldable pub stopping : (ℕ → Bool) → (ℕ → Bool) → Driver → Driver
-stopping wanted allowed (Of k n) = cond (wanted n.0 && allowed k.0) (Of k n) None
+unfoldable pub stopping : (ℕ → Bool) → (ℕ → Bool) → Option Driver → Option Driver
+stopping wanted allowed (Some d) = cond (wanted d.net.0 && allowed d.control.0) (Some d) None
 stopping wanted allowed None = None
 
--- the driver at c, if the pass that goes by a rule stops at it; `used` are the control cells that were on in an earlier group
-abbrev pub stop_by : Board → Rule → (ℕ → Bool) → ℕ → Driver
-stop_by b rule used c = stopping (wanted_in b rule.which rule.group) (allowed_in rule.which used) (driver_at b c)
+-- the driver at c, if the pass stops at it
+abbrev pub stop_by : Board → (ℕ → Bool) → (ℕ → Bool) → ℕ → Option Driver
+stop_by b wanted allowed c = stopping (wanted_in b wanted) allowed (driver_at b c)
 
 -- that pass over the positions below c
-abbrev pub pass_by : Board → Rule → (ℕ → Bool) → ℕ → List ℕ → List ℕ
-pass_by b rule used c on = pass b (wanted_in b rule.which rule.group) (allowed_in rule.which used) c on
+abbrev pub pass_by : Board → (ℕ → Bool) → (ℕ → Bool) → ℕ → List ℕ → List ℕ
+pass_by b wanted allowed c on = pass b (wanted_in b wanted) allowed c on
 
 -- where a pass stops, the driver's control cell is turned on, unless it is marked
-unfoldable pub turn_to : Board → Driver → List ℕ → List ℕ
-turn_to b (Of k n) on = cond (marked b on k.0) on (k.0 ∷ on)
+unfoldable pub turn_to : Board → Option Driver → List ℕ → List ℕ
+turn_to b (Some d) on = cond (marked b on d.control.0) on (d.control.0 ∷ on)
 turn_to b None on = on
 
--- a driver that some cell of the file is, or nothing
+-- a driver that some cell of the file is
 abbrev pub OnBoard : List ℕ → Driver → Type 0
-OnBoard file driver = (k : Position) (n : Net) → driver ≡ Of k n → (c : ℕ) × (c < cells_of file) × (driver_at (board_of file) c ≡ Of k n)
+OnBoard file driver = (c : ℕ) × (c < cells_of file) × (driver_at (board_of file) c ≡ Some driver)
 
 -- the nets of the control cells that are on
 unfoldable pub covered_by : Board → List ℕ → ℕ → Bool

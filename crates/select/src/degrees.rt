@@ -1,21 +1,11 @@
 // G: the largest number of controlled drivers on a net, which is its degree, but at least 1.
-ghost use Rattle.std.specs.Prelude.{◌≡◌, max};
+ghost use Rattle.std.specs.Prelude.{◌≡◌};
 ghost use Rattle.rules.specs.File.{board_of, nets_of};
 ghost use Rattle.rules.specs.Drivers.{groups_of};
 ghost use Rattle.select.specs.Turns.{Ready};
 
 use chains::{TABLE, drivers_on};
 use rules::Net;
-
-// The larger of two numbers.
-fn larger(a: usize, b: usize) -> usize
-    ensures { result ≡ max a b }
-{
-    if a < b {
-        return b;
-    }
-    a
-}
 
 // "G is the largest degree, but at least 1".
 pub fn groups_of(file: &[u8], table: &[u16; TABLE], nets: usize) -> usize
@@ -24,10 +14,8 @@ pub fn groups_of(file: &[u8], table: &[u16; TABLE], nets: usize) -> usize
     ensures { result ≡ groups_of (board_of file.now) }
 {
     let mut most = 1;
-    let mut n = 0;
-    while n < nets {
-        most = larger(most, drivers_on(table, Net(n as u16)));
-        n += 1;
+    for n in 0..nets {
+        most = most.max(drivers_on(table, Net(n as u16)));
     }
     most
 }

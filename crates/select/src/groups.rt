@@ -7,9 +7,10 @@ ghost use Rattle.select.specs.Turns.{listed, Ready};
 ghost use Rattle.select.specs.Highest.{Order};
 
 use crate::order::fill_order;
-use crate::turns::{Pass, Rule, run_pass};
+use crate::turns::run_pass;
 use chains::TABLE;
-use words::{CELL_WORDS, CellSet, NetSet};
+use rules::Position;
+use words::{CELL_WORDS, CellSet, NetSet, loops};
 
 // The control cells that group g turns on, after the earlier ones.
 pub fn selected(
@@ -23,25 +24,11 @@ pub fn selected(
     ensures { (used : List ℕ) → member earlier.words ≡ listed used → member result.words ≡ listed (selected (board_of file.now) g used) }
 {
     let mut words = [0u64; CELL_WORDS];
-    let first = Rule {
-        which: Pass::First,
-        group: g,
-        found,
-    };
-    let covered = run_pass(
-        file,
-        table,
-        first,
-        &earlier.words,
-        NetSet::empty(),
-        &mut words,
-    );
-    let second = Rule {
-        which: Pass::Second,
-        group: g,
-        found,
-    };
-    run_pass(file, table, second, &earlier.words, covered, &mut words);
+    let first = |degree: usize, k: Position| g <= degree
+        && !loops::has(&earlier.words, k.0 as usize);
+    let second = |degree: usize, _: Position| degree < g;
+    let covered = run_pass(file, table, found, first, NetSet::empty(), &mut words);
+    run_pass(file, table, found, second, covered, &mut words);
     CellSet { words }
 }
 
@@ -52,11 +39,9 @@ fn group_over(file: &[u8], table: &[u16; TABLE], found: usize, g: usize) -> Cell
     ensures { member result.words ≡ on_in (board_of file.now) g }
 {
     let mut earlier = CellSet::empty();
-    let mut j = 1;
-    while j < g {
+    for j in 1..g {
         let on = selected(file, table, found, j, earlier);
         earlier = on.union(earlier);
-        j += 1;
     }
     selected(file, table, found, g, earlier)
 }

@@ -9,7 +9,7 @@ ghost use Rattle.select.specs.Highest.{highest, Ordered, Order};
 
 use cells::driver_at;
 use chains::{TABLE, head, set_spare};
-use rules::{Driver, Position};
+use rules::Position;
 
 // The cell at c is the highest driver of its control cell.
 fn is_highest(file: &[u8], table: &[u16; TABLE], c: Position) -> bool
@@ -17,11 +17,10 @@ fn is_highest(file: &[u8], table: &[u16; TABLE], c: Position) -> bool
     requires c_bound { c.0 < cells_of file.now }
     ensures { result ≡ highest (board_of file.now) c.0 }
 {
-    let driver = driver_at(file, c);
-    let Driver::Of(k, _) = driver else {
+    let Some(driver) = driver_at(file, c) else {
         return false;
     };
-    head(table, k) == c.0 as usize + 1
+    head(table, driver.control).is_some_and(|top| top.0 == c.0)
 }
 
 // The highest drivers below c, and c if it is one; returns how many.
@@ -44,10 +43,8 @@ pub fn fill_order(file: &[u8], table: &mut [u16; TABLE], cells: usize) -> usize
     ensures { Order file.now table.new result }
 {
     let mut found = 0;
-    let mut c = 0;
-    while c < cells {
+    for c in 0..cells {
         found = add_highest(file, table, Position(c as u16), found);
-        c += 1;
     }
     found
 }

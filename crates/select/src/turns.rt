@@ -1,9 +1,9 @@
 // One position of a pass, and a pass: the control cells that it turns on.
-ghost use Rattle.std.specs.Prelude.{◌≡◌, ◌<◌, ◌*◌, length};
+ghost use Rattle.std.specs.Prelude.{◌≡◌, ◌<◌, ◌*◌, length, ℕ, Bool, Some, IfSome};
 ghost use Rattle.rules.specs.File.{Board, board_of, cells_of};
-ghost use Rattle.rules.specs.Drivers.{drives};
+ghost use Rattle.rules.specs.Drivers.{drives, driver_at};
 ghost use Rattle.words.specs.Sets.{cell_words, member};
-ghost use Rattle.select.specs.Turns.{wanted_at, allowed_in, stop_by, turn_to, pass_by, joined, turned_as, Ready, OnBoard, Leads};
+ghost use Rattle.select.specs.Turns.{Callable, Tells, stop_by, turn_to, pass_by, joined, turned_as, Ready, OnBoard, Leads};
 ghost use Rattle.select.specs.Highest.{Order};
 
 use cells::driver_at;
@@ -12,64 +12,24 @@ use chains::{TABLE, drivers_on, spare};
 use rules::{Driver, Position};
 use words::{NetSet, loops};
 
-// The two passes of a group.
-#[derive(Clone, Copy)]
-pub enum Pass {
-    First,
-    Second,
-}
-
-// What a pass goes by: which of the two it is, of which group, and over how many highest drivers, those that
-// the table holds.
-#[derive(Clone, Copy)]
-pub struct Rule {
-    pub which: Pass,
-    pub group: usize,
-    pub found: usize,
-}
-
-impl Rule {
-    // The pass wants nets of this degree.
-    fn wants(self, degree: usize) -> bool
-        ensures { result ≡ wanted_at self.which self.group degree }
-    {
-        let which = self.which;
-        match which {
-            Pass::First => self.group <= degree,
-            Pass::Second => degree < self.group,
-        }
-    }
-
-    // The pass may turn control cell k on, as far as those that were on in an earlier group go.
-    fn allows(self, earlier: &[u64], k: Position) -> bool
-        requires { k.0 < 64 * length earlier.now }
-        ensures { result ≡ allowed_in self.which (member earlier.now) k.0 }
-    {
-        let which = self.which;
-        match which {
-            Pass::First => !loops::has(earlier, k.0 as usize),
-            Pass::Second => true,
-        }
-    }
-}
-
-// The driver at c, if the pass stops at it: its net is wanted, and its control cell allowed.
-fn stop_at(file: &[u8], table: &[u16; TABLE], rule: Rule, earlier: &[u64], c: Position) -> Driver
+// The driver at c, if the pass stops at it: if its test, of the net's degree and of the control cell, passes.
+fn stop_at<F: Fn(usize, Position) -> bool>(
+    file: &[u8],
+    table: &[u16; TABLE],
+    stops: &F,
+    c: Position,
+) -> Option<Driver>
     requires ready { Ready file.now table.now }
     requires c_bound { c.0 < cells_of file.now }
-    requires earlier_len { length earlier.now ≡ cell_words }
-    ensures { result ≡ stop_by (board_of file.now) rule (member earlier.now) c.0 }
+    requires callable { Callable (F.pre stops.now) }
+    ensures stands { IfSome result (λ d. driver_at (board_of file.now) c.0 ≡ Some d) }
+    ensures stops { (wanted : ℕ → Bool) (allowed : ℕ → Bool) → Tells (F.post stops.now) wanted allowed → result ≡ stop_by (board_of file.now) wanted allowed c.0 }
 {
-    let driver = driver_at(file, c);
-    let Driver::Of(k, n) = driver else {
-        return driver;
-    };
-    if rule.wants(drivers_on(table, n)) {
-        if rule.allows(earlier, k) {
-            return driver;
-        }
+    let driver = driver_at(file, c)?;
+    if stops(drivers_on(table, driver.net), driver.control) {
+        return Some(driver);
     }
-    Driver::Nothing
+    None
 }
 
 // Control cell k, whose nets these are, is on besides, unless one of them is covered. Returns the nets that
@@ -98,40 +58,37 @@ fn turn(
     requires ready { Ready file.now table.now }
     requires on_board { OnBoard file.now driver }
     requires on_len { length on.old ≡ cell_words }
-    ensures { Leads (board_of file.now) (turn_to (board_of file.now) driver) (turned_as on.old covered) (turned_as on.new result) }
+    ensures { Leads (board_of file.now) (turn_to (board_of file.now) (Some driver)) (turned_as on.old covered) (turned_as on.new result) }
 {
-    let Driver::Of(k, n) = driver else {
-        return covered;
-    };
-    if covered.has(n) {
+    if covered.has(driver.net) {
         return covered;
     }
-    let nets = nets_of(file, table, k);
-    turn_on(k, nets, covered, on)
+    let nets = nets_of(file, table, driver.control);
+    turn_on(driver.control, nets, covered, on)
 }
 
-// A pass over the highest drivers, from the highest down: at no other does it turn anything on. `earlier` are
-// the control cells that were on in an earlier group; those that the pass turns on join `on`, and their nets
-// the covered ones, which it returns.
-pub(crate) fn run_pass(
+// A pass over the highest drivers, of which the table holds `found`, from the highest down: at no other does it
+// turn anything on. It stops at those whose degree and control cell pass its test. The control cells that it turns on
+// join `on`, and their nets the covered ones, which it returns.
+pub(crate) fn run_pass<F: Fn(usize, Position) -> bool>(
     file: &[u8],
     table: &[u16; TABLE],
-    rule: Rule,
-    earlier: &[u64],
+    found: usize,
+    stops: F,
     covered: NetSet,
     on: &mut [u64],
 ) -> NetSet
-    requires order { Order file.now table.now rule.found }
-    requires earlier_len { (length earlier.now ≡ cell_words) × (length on.old ≡ cell_words) }
-    ensures { Leads (board_of file.now) (pass_by (board_of file.now) rule (member earlier.now) (cells_of file.now)) (turned_as on.old covered) (turned_as on.new result) }
+    requires order { Order file.now table.now found }
+    requires callable { Callable (F.pre stops) }
+    requires on_len { length on.old ≡ cell_words }
+    ensures { (wanted : ℕ → Bool) (allowed : ℕ → Bool) → Tells (F.post stops) wanted allowed → Leads (board_of file.now) (pass_by (board_of file.now) wanted allowed (cells_of file.now)) (turned_as on.old covered) (turned_as on.new result) }
 {
     let mut nets = covered;
-    let mut i = rule.found;
-    while 0 < i {
-        i -= 1;
-        let c = Position(spare(table, i) as u16);
-        let driver = stop_at(file, table, rule, earlier, c);
-        nets = turn(file, table, driver, nets, on);
+    for i in (0..found).rev() {
+        let c = spare(table, i);
+        if let Some(driver) = stop_at(file, table, &stops, c) {
+            nets = turn(file, table, driver, nets, on);
+        }
     }
     nets
 }

@@ -23,7 +23,7 @@ later-wrong file (suc i) n e = rw e
 
 pub blocks_for-requires : goal.blocks_for-requires
 blocks_for-requires c =
-    omega (arith, c.requires.told, cells-bounded c.args.file.now (λ j. (c.shared_slice_known-1.given j).fits))
+    omega (arith, c.requires.told, cells-bounded c.args.file.now (λ j. (c.type_inv.file j).fits))
 
 pub returns-then-i-eq0 : goal.returns-then-i-eq0
 returns-then-i-eq0 c = first-wrong _ c.if-i-eq0.true c.requires.told c.blocks_for.ensures

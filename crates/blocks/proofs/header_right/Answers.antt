@@ -5,7 +5,6 @@ use Rattle.base.proofs.BoolLaws.{and-next, and-stop}
 use Rattle.rules.specs.File.{summed, zeros, head_right, header_right}
 use Rattle.blocks.specs.Places.{Headed}
 use Rattle.blocks.specs.Reading.{signature_right}
-use Rattle.blocks.specs.declared.Heads.{Heads}
 use Rattle.blocks.proofs.Heading.{headed-first}
 use Rattle.blocks.proofs.Lengths.{right-length}
 use Rattle.blocks.proofs.header_right.Goals as goal
@@ -15,11 +14,11 @@ regroup : (a b c d e f g h : Bool) → (a && (b && c && d && e && f && g) && h) 
 regroup true b c d e f g h = refl
 regroup false b c d e f g h = refl
 
-one-chain : (file : List ℕ) (heads : Heads) → Headed file heads → (ltb 0 heads.right && signature_right file && zeros file 16 summed) ≡ header_right file
+one-chain : (file : List ℕ) (heads : ℕ) → Headed file heads → (ltb 0 heads && signature_right file && zeros file 16 summed) ≡ header_right file
 unfolding header_right signature_right
 one-chain file heads h = rw (headed-first file heads h) (regroup (head_right file 0 1 0) _ _ _ _ _ _ _)
 
-two : (d : Joined-heads-gt0) → d.if-heads-gt0.value ≡ (ltb 0 d.args.heads.right && signature_right d.args.file.now)
+two : (d : Joined-heads-gt0) → d.if-heads-gt0.value ≡ (ltb 0 d.args.heads && signature_right d.args.file.now)
 two d =
     elim d.if-heads-gt0.branch [
       | then-heads-gt0 w ↦ and-next refl (lt-ltb _ _ w.if-heads-gt0.true) (w.value-is ∙ w.signature_right.ensures)

@@ -1,63 +1,48 @@
 -- `blocks::read_blocks` meets its contract, by the search for the lowest block that reading refuses; on the way each head is counted.
-use Rattle.std.proofs.Common.{[], sym, ap, ◌∙◌, subst, arith}
-use Rattle.base.proofs.TestLaws.{search-start, search-next}
+use Rattle.std.proofs.Common.{◌+◌, [], arith}
+use Rattle.base.proofs.TestLaws.{search-next}
 use Rattle.rules.specs.File.{blocks_in, cells_of}
 use Rattle.rules.proofs.CheckLaws.{found, ended}
-use Rattle.blocks.specs.Reading.{stopped_at, BlocksOf}
-use Rattle.blocks.proofs.Heading.{right-none, right-next, right-all}
+use Rattle.blocks.specs.Reading.{RightTo}
+use Rattle.blocks.proofs.Heading.{head-right, right-all, right-one-more, right-no-more}
 use Rattle.blocks.proofs.Lengths.{right-length}
-use Rattle.blocks.proofs.ReadingLaws.{held, held-head, refused, given}
+use Rattle.blocks.proofs.ReadingLaws.{held, refused}
+use Rattle.blocks.proofs.Shaping.{given_on}
 use Rattle.blocks.proofs.read_blocks.Goals as goal
-
-pub read-block-requires : goal.read-block-requires
-read-block-requires c =
-    let l = right-length _ c.requires in
-    let t = c.loop-i-test.true in
-    record { whole = omega arith; place-bounded = omega arith }
-
-pub returns-in_default : goal.returns-in_default
-unfolding blocks_in
-returns-in_default c =
-    let fails = refused _ _ c.read-block.ensures c.in_default.is in
-    subst (BlocksOf _) (sym (c.stopped.ensures ∙ ap stopped_at c.read-block.ensures ∙ given _ _ fails)) (found 2 [] c.loop-i.invariant.0 c.loop-i-test.true fails)
-
-pub head_laid-requires : goal.head_laid-requires
-head_laid-requires c =
-    let l = right-length _ c.requires in
-    let t = c.loop-i-test.true in
-    omega arith
-
-pub more_right-right-requires : goal.more_right-right-requires
-more_right-right-requires c =
-    let l = right-length _ c.requires in
-    let t = c.loop-i-test.true in
-    omega arith
-
-pub loop-i-preserved : goal.loop-i-preserved
-unfolding blocks_in cells_of
-loop-i-preserved c =
-    let inv = c.loop-i.invariant in
-    let told = c.in-Holds.is in
-    let own = held-head _ _ c.read-block.ensures told in
-    let next = right-next _ _ _ _ _ _ _ inv.1 c.more_right-right.ensures c.head_laid.ensures own c.number-cells.ensures in
-    (search-next inv.0 c.loop-i-test.true (held _ _ c.read-block.ensures told), next)
-
-pub returns : goal.returns
-unfolding blocks_in
-returns c =
-    let inv = c.loop-i.invariant in
-    let t = c.loop-i-test.false in
-    let l = inv.0.inside in
-    (ended 2 inv.0 t, right-all _ _ _ _ inv.1 (omega arith))
+use Rattle.blocks.proofs.read_blocks.Goals.{Joined-heads-i, then-heads-i+then-head_laid, else-heads-i, else-heads-i-via-then-heads-i+else-head_laid, else-heads-i-via-else-heads-i}
 
 pub number-cells-requires : goal.number-cells-requires
 number-cells-requires c = let l = right-length _ c.requires in omega arith
 
-pub loop-i-init : goal.loop-i-init
-loop-i-init c = (search-start _ _, right-none _)
+pub read-requires : goal.read-requires
+read-requires c = let l = right-length _ c.requires in record { whole = omega arith; place-bounded = omega arith }
 
-pub overflow_add-i : goal.overflow_add-i
-overflow_add-i c = let t = c.loop-i-test.true in omega arith
+pub returns-in_err-head : goal.returns-in_err-head
+unfolding blocks_in
+returns-in_err-head c =
+    let r = refused _ _ c.in_err-head.ensures in
+    rw (given_on _ c.from_residual.ensures.1, r.1) (found 2 [] c.loop-i.invariant.0 (omega arith) r.0)
 
-pub loop-i-smaller : goal.loop-i-smaller
-loop-i-smaller c = let t = c.loop-i-test.true in omega arith
+-- the head is counted where each one before it is, and it is right
+counted : (c : Joined-heads-i) → RightTo c.args.file.now (c.loop-i.i + 1) c.if-heads-i.heads
+unfolding cells_of
+counted c =
+    let own = (held _ _ c.in_ok-head.ensures).1 in
+    elim c.if-heads-i.branch [
+      | then-heads-i+then-head_laid w ↦
+          rw w.heads-is (right-one-more _ _ _ c.loop-i.invariant.1 w.if-heads-i.true (head-right _ _ own c.number-cells.ensures w.head_laid.ensures w.if-head_laid.true))
+      | else-heads-i w ↦
+          rw w.heads-is (right-no-more _ _ _ c.loop-i.invariant.1 (λ e.
+          elim w.else-heads-i.branch [
+            | else-heads-i-via-then-heads-i+else-head_laid v ↦ head-right _ _ own c.number-cells.ensures v.head_laid.ensures v.if-head_laid.false
+            | else-heads-i-via-else-heads-i v ↦ absurd (v.if-heads-i.false e)
+          ]))
+    ]
+
+pub loop-i-preserved : goal.loop-i-preserved
+unfolding blocks_in
+loop-i-preserved c = (search-next c.loop-i.invariant.0 (omega arith) (held _ _ c.in_ok-head.ensures).0, counted c)
+
+pub returns : goal.returns
+unfolding blocks_in
+returns c = (ended 2 c.loop-i.invariant.0 (omega arith), right-all _ _ _ _ c.loop-i.invariant.1 (omega arith))

@@ -1,56 +1,48 @@
 -- The checks in a row: a refusal stops it, an acceptance goes on, and what the blocks hold of their heads goes along.
-use Rattle.std.proofs.Common.{◌≡◌, false, sym, refl, ◌∙◌}
-use Rattle.rules.specs.Refusals.{wrong_length}
+use Rattle.std.proofs.Common.{sym, refl, ◌∙◌}
 use Rattle.rules.proofs.CheckLaws.{once-accepted}
 use Rattle.rules.proofs.Verdicts.{stopped, passed}
 use Rattle.blocks.specs.Places.{Headed}
 use Rattle.blocks.proofs.Lengths.{right-length}
-use Rattle.blocks.proofs.Shaping.{row-length, row-sums, row-header, all_held, all-refused, heads-positive}
+use Rattle.blocks.proofs.Shaping.{given_on, row-length, row-sums, row-header, heads-positive}
 use Rattle.blocks.proofs.shape_verdict.Goals as goal
-use Rattle.blocks.proofs.shape_verdict.Goals.{In-Accepted, In-Hold}
+use Rattle.blocks.proofs.shape_verdict.Goals.{In_ok-heads}
 
--- refusal 1 has passed
-long : (d : In-Accepted) → wrong_length d.args.file.now ≡ false
-long d = once-accepted 1 _ (sym d.length_verdict-length.ensures ∙ d.in-Accepted.is)
+-- refusals 1 and 2 have passed, with the heads
+headed : (c : In_ok-heads) → Headed c.args.file.now c.in_ok-heads.heads
+headed c = record { right = once-accepted 1 _ (sym c.in_ok-length_verdict.ensures); heads-are = c.in_ok-heads.ensures.1 }
 
-long-In-Hold : (d : In-Hold) → wrong_length d.args.file.now ≡ false
-long-In-Hold d = once-accepted 1 _ (sym d.length_verdict-length.ensures ∙ d.in-Accepted.is)
+pub returns-in_err-length_verdict : goal.returns-in_err-length_verdict
+returns-in_err-length_verdict c = given_on _ c.from_residual.ensures.1 ∙ stopped (row-length _) c.in_err-length_verdict.ensures refl
 
--- and so has refusal 2, with the heads
-headed : (d : In-Hold) → Headed d.args.file.now d.in-Hold.heads
-headed d =
-    record { right = long-In-Hold d; heads-are = (all_held _ d.read_blocks-blocks.ensures d.in-Hold.is).1 }
+pub read_blocks-requires : goal.read_blocks-requires
+read_blocks-requires c = once-accepted 1 _ (sym c.in_ok-length_verdict.ensures)
 
-pub returns-in_default : goal.returns-in_default
-returns-in_default c = stopped (row-length _) c.length_verdict-length.ensures c.in_default.is
+pub returns-in_err-heads : goal.returns-in_err-heads
+returns-in_err-heads c =
+    given_on _ c.from_residual-in_err-heads.ensures.1
+    ∙ passed (row-length _) c.in_ok-length_verdict.ensures refl (stopped (row-sums _) (sym c.in_err-heads.ensures) refl)
 
-pub returns-in_default-blocks : goal.returns-in_default-blocks
-returns-in_default-blocks c =
-    let r = all-refused _ c.read_blocks-blocks.ensures c.in_default-blocks.is c.sums_verdict.ensures in
-    passed (row-length _) c.length_verdict-length.ensures c.in-Accepted.is (stopped (row-sums _) r.0 r.1)
+pub header_verdict-requires : goal.header_verdict-requires
+header_verdict-requires c = headed c
 
-pub returns-in_default-header : goal.returns-in_default-header
-returns-in_default-header c =
-    passed (row-length _) c.length_verdict-length.ensures c.in-Accepted.is
-    (passed (row-sums _) (sym (all_held _ c.read_blocks-blocks.ensures c.in-Hold.is).0) refl
-    (stopped (row-header _) c.header_verdict-header.ensures c.in_default-header.is))
+pub returns-in_err-header_verdict : goal.returns-in_err-header_verdict
+returns-in_err-header_verdict c =
+    given_on _ c.from_residual-in_err-header_verdict.ensures.1
+    ∙ passed (row-length _) c.in_ok-length_verdict.ensures refl
+    (passed (row-sums _) (sym c.in_ok-heads.ensures.0) refl
+    (stopped (row-header _) c.in_err-header_verdict.ensures refl))
+
+pub read_sizes-requires : goal.read_sizes-requires
+read_sizes-requires c = (right-length _ (once-accepted 1 _ (sym c.in_ok-length_verdict.ensures))).has-header
 
 pub layout_verdict-requires : goal.layout_verdict-requires
 layout_verdict-requires c =
-    let told = headed (goal.at.layout_verdict-requires c).In-Hold in
-    record { headed = told; header = heads-positive _ _ told (sym c.header_verdict-header.ensures ∙ c.in-Accepted-header.is); told = c.read_sizes-sizes.ensures.cells }
+    let told = headed (goal.at.layout_verdict-requires c).In_ok-heads in
+    record { headed = told; header = heads-positive _ _ told (sym c.in_ok-header_verdict.ensures); told = c.read_sizes.ensures.cells }
 
 pub returns : goal.returns
 returns c =
-    passed (row-length _) c.length_verdict-length.ensures c.in-Accepted.is
-    (passed (row-sums _) (sym (all_held _ c.read_blocks-blocks.ensures c.in-Hold.is).0) refl
-    (passed (row-header _) c.header_verdict-header.ensures c.in-Accepted-header.is c.layout_verdict.ensures))
-
-pub read_blocks-blocks-requires : goal.read_blocks-blocks-requires
-read_blocks-blocks-requires c = long c
-
-pub header_verdict-header-requires : goal.header_verdict-header-requires
-header_verdict-header-requires c = headed c
-
-pub read_sizes-sizes-requires : goal.read_sizes-sizes-requires
-read_sizes-sizes-requires c = (right-length _ (headed (goal.at.read_sizes-sizes-requires c).In-Hold).right).has-header
+    passed (row-length _) c.in_ok-length_verdict.ensures refl
+    (passed (row-sums _) (sym c.in_ok-heads.ensures.0) refl
+    (passed (row-header _) c.in_ok-header_verdict.ensures refl c.layout_verdict.ensures))

@@ -3,8 +3,6 @@ use Rattle.std.proofs.Common.{◌≡◌, ◌-◌, ◌≤◌, eqb}
 use Rattle.rules.specs.File.{zeros}
 use Rattle.blocks.proofs.zeros.Given as goal
 
+-- the loop does not run where `to` is not past `from`
 abbrev pub invariant-loop-at : goal.invariant-loop-at
-invariant-loop-at l = (l.from ≤ l.at) × (l.at - l.from ≤ l.to - l.from) × (eqb l.digits 0 ≡ zeros l.file l.from l.at)
-
-abbrev pub decreases-loop-at : goal.decreases-loop-at
-decreases-loop-at l = l.to - l.at
+invariant-loop-at l = (l.at - l.from ≤ l.to - l.from) × (eqb l.digits 0 ≡ zeros l.file l.from l.at)

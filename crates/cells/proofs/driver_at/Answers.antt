@@ -4,7 +4,7 @@ use mathlib.Core.Path.{◌≡◌, ◌∙◌, ap, ap₂}
 use mathlib.Core.List.{List}
 use native.Mathlib.Omega.{arith}
 use lib.ListN.{length, get_or}
-use Rattle.std.specs.Prelude.{None, Option, Some}
+use Rattle.std.specs.Prelude.{None}
 use Rattle.rules.specs.File.{record_at, record_size, byte_at, kind_at, control_at, net_at, number_at, board_of}
 use Rattle.rules.specs.Drivers.{driver_at, Of}
 use Rattle.rules.proofs.DriverLaws.{read-three, read-five, read-other}
@@ -50,7 +50,7 @@ returns-in-5 c =
 
 pub returns-in_default : goal.returns-in_default
 returns-in_default c =
-    other _ _ _ c.requires c.record_start-at.ensures c.in_default.in_default-own.rest.0.1 c.in_default.in_default-own.rest.1
+    other _ _ _ c.requires c.record_start-at.ensures (λ k. omega arith) (λ k. omega arith)
 
 pub record_start-at-requires : goal.record_start-at-requires
 record_start-at-requires c = whole-bounded _ _ c.requires

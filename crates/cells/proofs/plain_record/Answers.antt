@@ -4,7 +4,7 @@ use mathlib.Core.Path.{◌≡◌, sym, ◌∙◌, ap, ap₂}
 use mathlib.Core.List.{List}
 use native.Mathlib.Omega.{arith}
 use lib.ListN.{length, get_or}
-use Rattle.std.specs.Prelude.{Some, None}
+use Rattle.std.specs.Prelude.{Some}
 use Rattle.rules.specs.File.{record_at, record_size, number_at, byte_at, kind_at, on_at, control_at, net_at, record_of, broken_at}
 use Rattle.rules.specs.declared.Cell.TheVariants.{Input, ThreeState, TwoState, OpenDrain}
 use Rattle.rules.proofs.RecordLaws.{plain_record, plain-record}

@@ -1,6 +1,7 @@
 -- Each arm is the definition's row; a number past the last row is broken. The columns that are not of the record itself are as the definition has
 -- them: the net is below N, and the control is the position of a kind 2 cell.
 use Rattle.rules.specs.File.{table_of}
+use Rattle.rules.proofs.RecordLaws.{some-means}
 use Rattle.cells.proofs.WholeLaws.{no_row}
 use Rattle.cells.proofs.table.Goals as goal
 
@@ -15,24 +16,24 @@ of_kind_2-requires c = record { shaped = c.requires.shaped; cells_value = c.requ
 
 pub returns-in-0 : goal.returns-in-0
 unfolding table_of
-returns-in-0 c = rw (c.means.ensures, c.columns.ensures, c.in-0.is)
+returns-in-0 c = rw (c.then_some.ensures, some-means, c.columns.ensures, c.in-0.is)
 
 pub returns-in-1 : goal.returns-in-1
 unfolding table_of
-returns-in-1 c = rw (c.means-in-1.ensures, c.columns-in-1.ensures, c.in-1.is, c.requires.sized.nets-are)
+returns-in-1 c = rw (c.then_some-in-1.ensures, some-means, c.columns-in-1.ensures, c.in-1.is, c.requires.sized.nets-are)
 
 pub returns-in-2 : goal.returns-in-2
 unfolding table_of
-returns-in-2 c = rw (c.means-in-2.ensures, c.columns-in-2.ensures, c.in-2.is)
+returns-in-2 c = rw (c.then_some-in-2.ensures, some-means, c.columns-in-2.ensures, c.in-2.is)
 
 pub returns-in-3 : goal.returns-in-3
 unfolding table_of
-returns-in-3 c = rw (c.means-in-3.ensures, c.columns-in-3.ensures, c.of_kind_2.ensures, c.in-3.is, c.requires.sized.nets-are)
+returns-in-3 c = rw (c.then_some-in-3.ensures, some-means, c.columns-in-3.ensures, c.of_kind_2.ensures, c.in-3.is, c.requires.sized.nets-are)
 
 pub returns-in-4 : goal.returns-in-4
 unfolding table_of
-returns-in-4 c = rw (c.means-in-4.ensures, c.columns-in-4.ensures, c.in-4.is, c.requires.sized.nets-are)
+returns-in-4 c = rw (c.then_some-in-4.ensures, some-means, c.columns-in-4.ensures, c.in-4.is, c.requires.sized.nets-are)
 
 pub returns-in-5 : goal.returns-in-5
 unfolding table_of
-returns-in-5 c = rw (c.means-in-5.ensures, c.columns-in-5.ensures, c.in-5.is, c.requires.sized.nets-are)
+returns-in-5 c = rw (c.then_some-in-5.ensures, some-means, c.columns-in-5.ensures, c.in-5.is, c.requires.sized.nets-are)

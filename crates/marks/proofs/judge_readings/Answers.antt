@@ -21,6 +21,3 @@ returns c =
     let m = c.write_marks.ensures in
     let t = marks-in _ _ _ c.collect-tests.ensures _ c.requires.sized.nets-are in
     record { out_after = m.buffer ∙ ap (λ (bytes : List ℕ). over bytes c.args.out.now) t; counted = counted-in _ _ _ _ m.counted t }
-
-pub collect-tests-requires : goal.collect-tests-requires
-collect-tests-requires c = record { readings = c.requires.readings; cells_value = c.requires.sized.cells_are }

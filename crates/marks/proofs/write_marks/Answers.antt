@@ -1,30 +1,24 @@
--- The invariant: the marks of the nets below n stand in the buffer and are counted. One net more is one byte more of both.
-use mathlib.Core.Path.{◌≡◌, ◌∙◌, ap}
-use native.Mathlib.Omega.{arith}
+-- One net more is one byte more in the bytes lent and one mark more among those counted (marked_more); the loop's end is marked-all.
+use Rattle.std.proofs.Common.{◌≡◌, ◌∙◌, ap, arith}
+use Rattle.std.proofs.lemmas.List.{length-take-le}
 use Rattle.rules.specs.Marks.{byte_of}
-use Rattle.marks.proofs.MarkedLaws.{marked-none, marked_more, marked-long, marked-bounded}
+use Rattle.marks.proofs.MarkedLaws.{marked-none, marked_more, marked-all, marked-bounded}
 use Rattle.marks.proofs.write_marks.Goals as goal
+
+pub loop-n-init : goal.loop-n-init
+loop-n-init c = let zero = c.default-counts.ensures in marked-none _ _ _ zero.0 zero.1.0 zero.1.1
+
+pub count_mark-counts-requires : goal.count_mark-counts-requires
+count_mark-counts-requires c =
+    let long = length-take-le _ _ c.requires.nets_in_bounds in
+    marked-bounded _ _ c.loop-n.invariant (omega arith)
 
 pub loop-n-preserved : goal.loop-n-preserved
 loop-n-preserved c =
-    let byte = c.byte_of-byte.ensures ∙ ap byte_of c.mark_of.ensures in
-    (omega arith, marked_more _ _ c.loop-n.invariant.1 (omega arith) _ _ byte c.count_byte-counts.ensures)
+    marked_more _ _ c.loop-n.invariant c.loop-n-test.true _ _ (c.byte_of.ensures ∙ ap byte_of c.mark_of-mark.ensures) (c.count_mark-counts.ensures ∙ cc)
 
 pub returns : goal.returns
 returns c =
-    let i = c.loop-n.invariant.0 in
-    let t = c.loop-n-test.false in
+    let long = length-take-le _ _ c.requires.nets_in_bounds in
     let done : c.loop-n.n ≡ c.args.nets = omega arith in
-    rw done at c.loop-n.invariant.1
-
-pub loop-n-init : goal.loop-n-init
-loop-n-init c = (omega arith, marked-none _ _)
-
-pub bounds-out-n : goal.bounds-out-n
-bounds-out-n c = let m = marked-long _ _ c.loop-n.invariant.1 (omega arith) in omega arith
-
-pub count_byte-counts-requires : goal.count_byte-counts-requires
-count_byte-counts-requires c = marked-bounded _ _ c.loop-n.invariant.1 (omega arith)
-
-pub shape_of-out : goal.shape_of-out
-shape_of-out c = marked-long _ _ c.loop-n.invariant.1 (omega arith)
+    marked-all _ _ (rw done at c.loop-n.invariant) c.requires.nets_in_bounds

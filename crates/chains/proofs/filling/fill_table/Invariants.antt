@@ -1,10 +1,6 @@
 -- A blank table is that of no position; the invariant: that of the positions below c. One position more is enter's.
-use Prim.Native.Nat.{◌-◌, ◌≤◌}
 use Rattle.chains.specs.Filling.{Entered}
 use Rattle.chains.proofs.filling.fill_table.Given as goal
 
 abbrev pub invariant-loop-c : goal.invariant-loop-c
-invariant-loop-c l = Entered l.file l.c l.table × (l.c ≤ l.cells)
-
-abbrev pub decreases-loop-c : goal.decreases-loop-c
-decreases-loop-c l = l.cells - l.c
+invariant-loop-c l = Entered l.file l.c l.table

@@ -1,19 +1,19 @@
--- The quotient is `ceil`, and from 1 on it is at least 1.
-use mathlib.Core.Path.{refl}
-use native.Mathlib.Nat.{le-div_iff_mul-le}
+-- The library's division rounded up is `ceil`.
+use Prim.Native.Nat.{ℕ, ◌+◌, ◌-◌, ◌<◌}
+use mathlib.Core.Path.{◌≡◌}
 use native.Mathlib.Omega.{arith}
+use Rattle.std.specs.Int.{div_ceil}
+use Rattle.std.proofs.lemmas.Grind.{div_ceil_times}
+use Rattle.std.proofs.lemmas.Nat.{div_below, le-div}
 use Rattle.base.specs.Digits.{ceil}
-use Rattle.base.proofs.DigitLaws.{ceil-zero}
 use Rattle.plan.proofs.codes.inserted.Goals as goal
 
-pub returns-then-changes-eq0 : goal.returns-then-changes-eq0
+div_ceil-is : (h s : ℕ) → 0 < s → div_ceil h s ≡ ceil h s
 unfolding ceil
-returns-then-changes-eq0 c = rw (c.if-changes-eq0.true, ceil-zero c.args.limit c.requires.1) refl
-
-pub overflow_sub-result-2 : goal.overflow_sub-result-2
-unfolding ceil
-overflow_sub-result-2 c = (le-div_iff_mul-le c.requires.1).1 (omega (arith, c.if-changes-eq0.false))
+div_ceil-is h s p =
+    let d = div_ceil h s in
+    let b = div_ceil_times h s p in
+    omega (arith, b, le-div d (h + (s - 1)) s p (omega (arith, b)), div_below (h + (s - 1)) s (d + 1) p (omega (arith, b)))
 
 pub returns : goal.returns
-unfolding ceil
-returns c = refl
+returns c = rw (c.saturating_sub.ensures, c.div_ceil.ensures, div_ceil-is c.args.changes c.args.limit c.requires.1)

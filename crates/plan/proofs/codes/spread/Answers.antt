@@ -3,14 +3,14 @@ use mathlib.Core.Bool.{true, false}
 use Rattle.plan.proofs.Patterns.{spread-is}
 use Rattle.plan.proofs.codes.spread.Goals as goal
 
-pub returns-then-top : goal.returns-then-top
-returns-then-top c = rw (c.if-lower.true, c.if-top.true) (spread-is true true)
+pub returns-in-true-true : goal.returns-in-true-true
+returns-in-true-true c = rw (c.in-true-true.is-0, c.in-true-true.is-1) (spread-is true true)
 
-pub returns-then-lower : goal.returns-then-lower
-returns-then-lower c = rw (c.if-lower.true, c.if-top.false) (spread-is true false)
+pub returns-in-true-false : goal.returns-in-true-false
+returns-in-true-false c = rw (c.in-true-false.is-0, c.in-true-false.is-1) (spread-is true false)
 
-pub returns-then-top-2 : goal.returns-then-top-2
-returns-then-top-2 c = rw (c.if-lower.false, c.if-top-2.true) (spread-is false true)
+pub returns-in-false-true : goal.returns-in-false-true
+returns-in-false-true c = rw (c.in-false-true.is-0, c.in-false-true.is-1) (spread-is false true)
 
-pub returns : goal.returns
-returns c = rw (c.if-lower.false, c.if-top-2.false) (spread-is false false)
+pub returns-in-false-false : goal.returns-in-false-false
+returns-in-false-false c = rw (c.in-false-false.is-0, c.in-false-false.is-1) (spread-is false false)

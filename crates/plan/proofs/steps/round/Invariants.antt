@@ -1,13 +1,8 @@
--- n is where part j starts in a round, and `old` has the values of base vector j.
-use Prim.Native.Nat.{◌-◌, ◌≤◌}
+-- n is where part i starts in a round, and `old` has the values of base vector i.
 use mathlib.Core.Path.{◌≡◌}
 use Rattle.words.specs.Sets.{member}
 use Rattle.plan.specs.Plans.{bases_for, full_start}
 use Rattle.plan.proofs.steps.round.Given as goal
 
-abbrev pub invariant-loop-j : goal.invariant-loop-j
-invariant-loop-j l =
-    (l.j ≤ l.plan.wide) × (l.n ≡ full_start l.plan l.j) × (member l.old.words ≡ (bases_for l.plan).value l.j)
-
-abbrev pub decreases-loop-j : goal.decreases-loop-j
-decreases-loop-j l = l.plan.wide - l.j
+abbrev pub invariant-loop-i : goal.invariant-loop-i
+invariant-loop-i l = (l.n ≡ full_start l.plan l.i) × (member l.old.words ≡ (bases_for l.plan).value l.i)

@@ -1,32 +1,12 @@
 -- Entry by entry.
-use native.Mathlib.Omega.{arith}
-use Rattle.readings.proofs.MappedLaws.{mapping-none, mapping-long, entry_in, entry-bounded, mapping-more, mapping-all, byte_inside}
+use Rattle.std.proofs.Common.{rules}
+use Rattle.readings.proofs.MappedLaws.{mapped_as, byte_inside}
 use Rattle.readings.proofs.codes.add_row.Goals as goal
 
-pub loop-c-preserved : goal.loop-c-preserved
-loop-c-preserved c =
-    mapping-more c.loop-c.invariant _ c.loop-c-test.true (rw (← c.seen.ensures) c.add_digit.ensures)
-
-pub loop-c-init : goal.loop-c-init
-loop-c-init c = mapping-none c.requires.entries.long
-
-pub overflow_cast-c : goal.overflow_cast-c
-overflow_cast-c c = let bounded = c.requires.scanned.cells-bounded in let t = c.loop-c-test.true in omega arith
-
-pub seen-requires : goal.seen-requires
-seen-requires c = byte_inside _ _ _ _ c.requires.scanned c.loop-c-test.true
-
-pub bounds-table-c : goal.bounds-table-c
-bounds-table-c c = entry_in c.loop-c.invariant c.loop-c-test.true
-
-pub add_digit-requires : goal.add_digit-requires
-add_digit-requires c = entry-bounded c.loop-c.invariant _ c.requires.entries c.loop-c-test.true
-
-pub bounds-table-c-in-loop-c : goal.bounds-table-c-in-loop-c
-bounds-table-c-in-loop-c c = entry_in c.loop-c.invariant c.loop-c-test.true
-
-pub shape_of-table : goal.shape_of-table
-shape_of-table c = mapping-long c.loop-c.invariant
+pub map_entries-requires : goal.map_entries-requires
+map_entries-requires c =
+    let few = c.requires.scanned.cells-bounded in
+    record { cells_in_bounds = c.requires.entries.long; callable = λ d l. let inside = byte_inside _ _ _ _ c.requires.scanned l in let low = c.requires.entries.entries-bounded d l in search rules }
 
 pub returns : goal.returns
-returns c = mapping-all c.loop-c.invariant c.loop-c-test.false
+returns c = mapped_as c.map_entries.ensures (λ d e x p. search rules)

@@ -1,13 +1,9 @@
--- Bit by bit, from pattern 1 on.
-use Prim.Native.Nat.{◌-◌, ◌≤◌}
-use mathlib.Core.Path.{◌≡◌}
+-- Bit by bit, from pattern 1 on: t is where part j begins, and the entries have the bits of the base vectors before it.
+use Rattle.std.proofs.Common.{◌≡◌}
 use Rattle.plan.specs.Plans.{start_of}
 use Rattle.readings.specs.Readings.{code_from, Mapped}
 use Rattle.readings.proofs.codes.read_codes.Given as goal
 
 abbrev pub invariant-loop-j : goal.invariant-loop-j
 invariant-loop-j l =
-    (l.j ≤ l.plan.wide) × (l.t ≡ start_of l.plan l.j) × Mapped (code_from l.plan l.bytes l.capture l.j) l.initial.table l.cells l.table
-
-abbrev pub decreases-loop-j : goal.decreases-loop-j
-decreases-loop-j l = l.plan.wide - l.j
+    record { begins : l.t ≡ start_of l.plan l.j; codes : Mapped (code_from l.plan l.bytes l.capture l.j) l.initial.table l.cells l.table }

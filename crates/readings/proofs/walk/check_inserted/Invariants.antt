@@ -1,19 +1,13 @@
 -- The k-th inserted vector has the k x SSOL lowest of the differing nets changed, and the next base vector all of them.
-use Prim.Native.Nat.{◌+◌, ◌*◌, ◌-◌, ◌≤◌}
-use mathlib.Core.Path.{◌≡◌}
+use Rattle.std.proofs.Common.{◌≡◌, ◌+◌, ◌*◌}
 use Rattle.base.specs.Tests.{any}
 use Rattle.words.specs.Sets.{member}
-use Rattle.plan.specs.Plans.{bases_for}
 use Rattle.readings.specs.Readings.{value_at, stray_after, Left}
 use Rattle.readings.proofs.walk.check_inserted.Given as goal
 
 abbrev pub invariant-loop-k : goal.invariant-loop-k
 invariant-loop-k l =
-    (l.k ≤ l.span.extra)
-    × Left (λ c. any l.k (λ j. stray_after l.plan l.bytes l.capture l.table c (l.span.start + j))) l.initial.left (8 * l.bytes) l.left
-    × (member l.values.words ≡ value_at l.plan (l.span.start + l.k))
-    × (member l.old.words ≡ (bases_for l.plan).value l.span.i)
-    × (member l.new.words ≡ (bases_for l.plan).value (l.span.i + 1))
-
-abbrev pub decreases-loop-k : goal.decreases-loop-k
-decreases-loop-k l = l.span.extra - l.k
+    record {
+      still_left : Left (λ c. any l.k (λ j. stray_after l.plan l.bytes l.capture l.table c (l.span.start + j))) l.initial.left (8 * l.bytes) l.left;
+      now : member l.values.words ≡ value_at l.plan (l.span.start + l.k);
+    }

@@ -30,11 +30,5 @@ byte-cells ws j =
     let w = get_or ws (j / 8) 0 / 2 ^ (8 * (j % 8)) in
     low_byte w ∙ sym (word_cut 8 w) ∙ word_same 8 (bit w) (λ i. member ws (8 * j + i)) (cell-digit ws j)
 
-pub bounds-words-j : goal.bounds-words-j
-bounds-words-j c = omega (arith, c.requires)
-
-pub overflow_cast-result : goal.overflow_cast-result
-overflow_cast-result c = record { fits = rw low_byte (omega arith) }
-
 pub returns : goal.returns
 returns c = byte-cells c.args.words.now c.args.j

@@ -50,6 +50,3 @@ returns-then-cell_bit c =
 pub returns-else-cell_bit : goal.returns-else-cell_bit
 returns-else-cell_bit c =
     plus-fails _ _ _ (told _ _ _ _ _ _ _ c.cell_at.ensures c.cell_bit.ensures c.if-cell_bit.false)
-
-pub cell_at-requires : goal.cell_at-requires
-cell_at-requires c = c.requires.whole

@@ -1,54 +1,58 @@
 -- By the kind of the cell.
-use Prim.Native.Nat.{ℕ, ◌<◌}
-use mathlib.Core.Path.{◌≡◌, subst}
+use Prim.Native.Nat.{ℕ}
+use mathlib.Core.Path.{◌≡◌, refl}
+use mathlib.Core.Logic.{◌⊎◌, ⊎_elim}
+use mathlib.Core.Bool.{Bool, true, false, cond, not, beq}
 use Rattle.rules.specs.declared.Cell.{Cell}
+use Rattle.rules.specs.declared.Cell.TheVariants.{Internal, Input, ThreeState, TwoState}
+use Rattle.rules.specs.declared.Net.{Net}
+use Rattle.rules.specs.declared.Position.{Position}
 use Rattle.rows.specs.Bits.{bit_of, out_net}
 use Rattle.rows.proofs.vectors.cell_bit.Goals as goal
 
--- the net of the cell that was matched fits
-fits : {cell known : Cell} {most : ℕ} → cell ≡ known → out_net cell < most → out_net known < most
-fits {cell} {known} {most} e h = subst (λ (x : Cell). out_net x < most) e h
+-- a cell with no bit of its own
+idle : (lit : Bool) (nets : ℕ → Bool) (cell : Cell) → (cell ≡ Internal) ⊎ ((n : Net) × (cell ≡ Input n)) → false ≡ bit_of lit nets cell
+unfolding bit_of
+idle lit nets cell h = ⊎_elim (λ (e : cell ≡ Internal). rw e) (λ (r : (n : Net) × (cell ≡ Input n)). rw r.1) h
 
-pub has-requires : goal.has-requires
-unfolding bit_of out_net
-has-requires c = c.requires.0
+-- an output that is not open-drain: its net, and its bit
+module _ (cell : Cell) (n : Net) (h : ((k : Position) × (cell ≡ ThreeState k n)) ⊎ (cell ≡ TwoState n)) where
+  driven : out_net cell ≡ n.0
+  unfolding out_net
+  driven = ⊎_elim (λ (r : (k : Position) × (cell ≡ ThreeState k n)). rw r.1) (λ (e : cell ≡ TwoState n). rw e) h
+
+  driven-bit : (lit : Bool) (nets : ℕ → Bool) → nets n.0 ≡ bit_of lit nets cell
+  unfolding bit_of
+  driven-bit lit nets = ⊎_elim (λ (r : (k : Position) × (cell ≡ ThreeState k n)). rw r.1) (λ (e : cell ≡ TwoState n). rw e) h
+
+-- a value where lit, else the other
+alike : (lit value : Bool) → beq lit value ≡ cond lit value (not value)
+alike true true = refl
+alike true false = refl
+alike false true = refl
+alike false false = refl
 
 pub has-requires-in-ThreeState : goal.has-requires-in-ThreeState
-unfolding bit_of out_net
-has-requires-in-ThreeState c = fits c.in-ThreeState.is c.requires.1
+has-requires-in-ThreeState c = rw (driven _ _ c.in-ThreeState.is) at c.requires.1
 
-pub has-requires-in-TwoState : goal.has-requires-in-TwoState
-unfolding bit_of out_net
-has-requires-in-TwoState c = fits c.in-TwoState.is c.requires.1
-
-pub has-requires-in-OpenDrain : goal.has-requires-in-OpenDrain
-unfolding bit_of out_net
-has-requires-in-OpenDrain c = c.requires.0
-
-pub has-requires-in-OpenDrain-2 : goal.has-requires-in-OpenDrain-2
-unfolding bit_of out_net
-has-requires-in-OpenDrain-2 c = fits c.in-OpenDrain.is c.requires.1
+pub has-requires-else-not-has : goal.has-requires-else-not-has
+unfolding out_net
+has-requires-else-not-has c = rw c.in-OpenDrain.is at c.requires.1
 
 pub returns-in-Internal : goal.returns-in-Internal
-unfolding bit_of out_net
-returns-in-Internal c = rw c.in-Internal.is
-
-pub returns-in-Input : goal.returns-in-Input
-unfolding bit_of out_net
-returns-in-Input c = rw c.in-Input.is
+returns-in-Internal c = idle _ _ _ c.in-Internal.is
 
 pub returns-in-Control : goal.returns-in-Control
-unfolding bit_of out_net
-returns-in-Control c = rw (c.control_bit.ensures, c.has.ensures, c.in-Control.is)
+unfolding bit_of
+returns-in-Control c = rw (c.has.ensures, c.in-Control.is) (alike _ _)
 
 pub returns-in-ThreeState : goal.returns-in-ThreeState
-unfolding bit_of out_net
-returns-in-ThreeState c = rw (c.has-in-ThreeState.ensures, c.in-ThreeState.is)
+returns-in-ThreeState c = rw c.has-in-ThreeState.ensures (driven-bit _ _ c.in-ThreeState.is _ _)
 
-pub returns-in-TwoState : goal.returns-in-TwoState
-unfolding bit_of out_net
-returns-in-TwoState c = rw (c.has-in-TwoState.ensures, c.in-TwoState.is)
+pub returns-then-not-has : goal.returns-then-not-has
+unfolding bit_of
+returns-then-not-has c = rw (c.in-OpenDrain.is, ← c.has-in-OpenDrain.ensures, c.if-not-has.true)
 
-pub returns-in-OpenDrain : goal.returns-in-OpenDrain
-unfolding bit_of out_net
-returns-in-OpenDrain c = rw (c.drain_bit.ensures, c.has-in-OpenDrain.ensures, c.has-in-OpenDrain-2.ensures, c.in-OpenDrain.is)
+pub returns-else-not-has : goal.returns-else-not-has
+unfolding bit_of
+returns-else-not-has c = rw (c.in-OpenDrain.is, ← c.has-in-OpenDrain.ensures, c.if-not-has.false) c.has-else-not-has.ensures

@@ -1,5 +1,4 @@
 -- The row holds the cells below c whose bit is 1.
-use Prim.Native.Nat.{◌-◌, ◌≤◌}
 use mathlib.Core.Path.{◌≡◌}
 use lib.ListN.{length}
 use Rattle.rules.specs.File.{board_of}
@@ -8,8 +7,4 @@ use Rattle.rows.specs.Bits.{bit_at}
 use Rattle.rows.proofs.vectors.row_cells.Given as goal
 
 abbrev pub invariant-loop-c : goal.invariant-loop-c
-invariant-loop-c l =
-    (l.c ≤ l.cells) × (member l.words ≡ up_to l.c (bit_at (board_of l.file) (member l.on.words) (member l.nets.words))) × (length l.words ≡ cell_words)
-
-abbrev pub decreases-loop-c : goal.decreases-loop-c
-decreases-loop-c l = l.cells - l.c
+invariant-loop-c l = (member l.words ≡ up_to l.c (bit_at (board_of l.file) (member l.on.words) (member l.nets.words))) × (length l.words ≡ cell_words)

@@ -27,9 +27,8 @@ group-is : (c : After-group_of-turn) → c.group_of-turn.result ≡ (vector_at (
 group-is c =
     c.group_of-turn.ensures ∙ ap (λ (v : Vector). v.group) (vector-is _ _ _ _ c.requires.planned c.step_at-step.ensures)
 
-pub group-on-requires : goal.group-on-requires
-group-on-requires c =
-    record { ready = c.requires.ready; cells_value = c.requires.cells_are; le_g = rw (group-is (goal.at.group-on-requires c).After-group_of-turn) (vector-group _ _ c.requires.below).0 }
+pub group-on-requires-clause-le_g : goal.group-on-requires-clause-le_g
+group-on-requires-clause-le_g c = rw (group-is (goal.at.group-on-requires-clause-le_g c).After-group_of-turn) (vector-group _ _ c.requires.below).0
 
 pub write_row-requires : goal.write_row-requires
 write_row-requires c =
@@ -38,13 +37,15 @@ write_row-requires c =
     let f = cells_fit _ c.requires.ready.by-control.checked in
     record { room = record { long = omega arith; cells-bounded = omega arith }; cells = subst (Cells _) (sym c.row_cells-row.ensures) (own-cells _ _) }
 
-pub returns : goal.returns
-returns c =
-    let v = vector-is _ _ _ _ c.requires.planned c.step_at-step.ensures in
-    let nets = c.values-nets.ensures ∙ ap (λ (v : Vector). v.value) v in
+pub returns-clause-value : goal.returns-clause-value
+returns-clause-value c = group-is (goal.at.returns-clause-value c).After-group_of-turn
+
+pub returns-clause-out_after : goal.returns-clause-out_after
+returns-clause-out_after c =
+    let nets = c.values-nets.ensures ∙ ap (λ (v : Vector). v.value) (vector-is _ _ _ _ c.requires.planned c.step_at-step.ensures) in
     let size = board-size _ _ c.requires.cells_are in
-    let row = vector-written _ _ _ _ _ _ _ _ _ size (group-is (goal.at.returns c).After-group_of-turn) c.group-on.ensures.words_value nets c.row_cells-row.ensures c.write_row.ensures in
-    record { value = group-is (goal.at.returns c).After-group_of-turn; out_after = row; ready = c.group-on.ensures.ready_2 }
+    let g = group-is (goal.at.returns-clause-out_after c).After-group_of-turn in
+    vector-written _ _ _ _ _ _ _ _ _ size g c.group-on.ensures.words_value nets c.row_cells-row.ensures c.write_row.ensures
 
 pub step_at-step-requires : goal.step_at-step-requires
 step_at-step-requires c = record { small = small-plan _ c.requires.ready.accepted _ c.requires.planned; t_in_bounds = rw (total-is _ _ c.requires.planned) c.requires.below }
@@ -54,6 +55,3 @@ group_of-turn-requires c = record { small = small c; within = within c }
 
 pub values-nets-requires : goal.values-nets-requires
 values-nets-requires c = record { small = small (goal.at.values-nets-requires c).After-step_at-step; within = within (goal.at.values-nets-requires c).After-step_at-step }
-
-pub row_cells-row-requires : goal.row_cells-row-requires
-row_cells-row-requires c = record { file_value = c.requires.ready.by-control.checked; cells_value = c.requires.cells_are }

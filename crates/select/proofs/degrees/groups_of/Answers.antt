@@ -2,43 +2,24 @@
 use Prim.Native.Nat.{◌<◌}
 use mathlib.Core.Path.{◌∙◌}
 use native.Mathlib.Omega.{arith}
-use Rattle.rules.specs.File.{nets_of}
 use Rattle.rules.specs.Refusals.{most_nets}
 use Rattle.chains.proofs.Walks.{net-fits}
 use Rattle.select.proofs.Largest.{so-far-none, so_far_more, so-far-all}
 use Rattle.select.proofs.degrees.groups_of.Goals as goal
-use Rattle.select.proofs.degrees.groups_of.Goals.{In-loop-n}
-
--- the step's net is one of the file's
-here : (c : In-loop-n) → c.loop-n.n < nets_of c.args.file.now
-here c =
-    let e = c.requires.nets_value in
-    let t = c.loop-n-test.true in
-    omega arith
 
 pub drivers_on-requires : goal.drivers_on-requires
-drivers_on-requires c = net-fits _ c.requires.ready.counted.checked _ (here c)
+drivers_on-requires c = net-fits _ c.requires.ready.counted.checked _ (omega arith)
 
 pub overflow_cast-n : goal.overflow_cast-n
 overflow_cast-n c =
-    let f : c.loop-n.n < most_nets = net-fits _ c.requires.ready.counted.checked _ (here c) in
+    let f : c.loop-n.n < most_nets = net-fits _ c.requires.ready.counted.checked _ (omega arith) in
     omega arith
 
+pub loop-n-init : goal.loop-n-init
+loop-n-init c = so-far-none _ _ c.requires.ready
+
 pub loop-n-preserved : goal.loop-n-preserved
-loop-n-preserved c =
-    let t = c.loop-n-test.true in
-    let inv = c.loop-n.invariant in (
-      omega arith,
-      so_far_more _ _ c.requires.ready _ _ _ _ (here (goal.at.loop-n-preserved c).In-loop-n) inv.1 c.drivers_on.ensures c.larger-most.ensures,
-    )
+loop-n-preserved c = so_far_more _ _ c.requires.ready _ _ _ _ (omega arith) c.loop-n.invariant c.drivers_on.ensures c.max-most.ensures
 
 pub returns : goal.returns
-returns c =
-    let e = c.requires.nets_value in
-    let inv = c.loop-n.invariant in
-    let n = inv.0 in
-    let t = c.loop-n-test.false in
-    inv.1 ∙ so-far-all _ _ c.requires.ready _ (omega arith)
-
-pub loop-n-init : goal.loop-n-init
-loop-n-init c = (omega arith, so-far-none _ _ c.requires.ready)
+returns c = c.loop-n.invariant ∙ so-far-all _ _ c.requires.ready _ (omega arith)

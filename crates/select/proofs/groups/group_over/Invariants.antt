@@ -1,5 +1,5 @@
 -- The cells of groups 1 to j - 1, group by group.
-use Prim.Native.Nat.{◌-◌, ◌≤◌, ◌<◌}
+use Prim.Native.Nat.{◌-◌}
 use mathlib.Core.Path.{◌≡◌}
 use Rattle.rules.specs.File.{board_of}
 use Rattle.rules.specs.Groups as Groups
@@ -8,8 +8,4 @@ use Rattle.select.specs.Turns.{listed}
 use Rattle.select.proofs.groups.group_over.Given as goal
 
 abbrev pub invariant-loop-j : goal.invariant-loop-j
-invariant-loop-j l =
-    (0 < l.j) × (l.j ≤ l.g) × (member l.earlier.words ≡ listed (Groups.earlier (board_of l.file) (l.j - 1)))
-
-abbrev pub decreases-loop-j : goal.decreases-loop-j
-decreases-loop-j l = l.g - l.j
+invariant-loop-j l = member l.earlier.words ≡ listed (Groups.earlier (board_of l.file) (l.j - 1))

@@ -9,10 +9,5 @@ use Rattle.select.proofs.groups.selected.Goals as goal
 pub returns : goal.returns
 returns c used e =
     let none = holds-none _ _ (member-zeros cell_words) c.empty.ensures in
-    selected-is _ _ used _ _ _ e (board-size _ _ refl) (c.run_pass.ensures _ (c.run_pass-covered.ensures _ none))
-
-pub run_pass-covered-requires : goal.run_pass-covered-requires
-run_pass-covered-requires c = record { order = c.requires; earlier_len = (search rules, search rules) }
-
-pub run_pass-requires : goal.run_pass-requires
-run_pass-requires c = record { order = c.requires; earlier_len = (search rules, search rules) }
+    selected-is _ _ used _ _ _ e (board-size _ _ refl)
+    (c.run_pass.ensures _ _ (λ d k stops l h. search rules) _ (c.run_pass-covered.ensures _ _ (λ d k stops l h. search rules) _ none))

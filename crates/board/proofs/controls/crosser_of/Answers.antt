@@ -7,8 +7,8 @@ use Rattle.rules.specs.Drivers.{crosses}
 use Rattle.words.specs.Sets.{cell_words}
 use Rattle.chains.proofs.Walks.{cell-fits, cells_fit}
 use Rattle.board.proofs.ControlChecks.{Uncrossed, crosses-is, search-from, search-on, search-found, search-ended, idle-uncrossed}
-use Rattle.board.proofs.controls.pair_from.Goals as goal
-use Rattle.board.proofs.controls.pair_from.Goals.{After-next-j-in-loop-j, After-sets_cross, In-loop-j, Start}
+use Rattle.board.proofs.controls.crosser_of.Goals as goal
+use Rattle.board.proofs.controls.crosser_of.Goals.{After-next-j-in-loop-j, After-sets_cross, In-loop-j, Start}
 
 own : (s : Start) → s.args.i.0 < cells_of s.args.file.now
 own s = let e = s.requires.cells_value in let l = s.requires.i_lt_cells in omega arith

@@ -2,7 +2,7 @@
 use Prim.Native.Nat.{◌-◌}
 use Rattle.rules.specs.File.{board_of}
 use Rattle.board.proofs.ControlChecks.{Uncrossed}
-use Rattle.board.proofs.controls.pair_from.Given as goal
+use Rattle.board.proofs.controls.crosser_of.Given as goal
 
 -- none up to j crosses i
 abbrev pub invariant-loop-j : goal.invariant-loop-j

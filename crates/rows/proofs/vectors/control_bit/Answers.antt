@@ -1,8 +1,0 @@
--- The test decides.
-use Rattle.rows.proofs.vectors.control_bit.Goals as goal
-
-pub returns-then-lit : goal.returns-then-lit
-returns-then-lit c = rw c.if-lit.true
-
-pub returns : goal.returns
-returns c = rw c.if-lit.false
