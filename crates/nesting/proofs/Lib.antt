@@ -1,6 +1,6 @@
 -- The laws that the functions of this crate share, and its callers.
 pub mod ControlNets
 pub mod BearingLaws
-pub mod HeadLaws
 pub mod LevelLaws
 pub mod PassingLaws
+pub mod Fits

@@ -1,6 +1,6 @@
 -- Refusal 8 by one walk along a net's outputs, from the highest down: one that is always on clashes with every other, and two of one control
 -- cell clash; where neither is met, none do.
-use Prim.Native.Nat.{ℕ, ◌-◌, ◌<◌, ◌≤◌}
+use Prim.Native.Nat.{ℕ, suc, ◌-◌, ◌<◌, ◌≤◌}
 use mathlib.Core.Path.{◌≡◌, refl, sym, ◌∙◌, ap}
 use mathlib.Core.Logic.{◌⊎◌, inl, inr, ⊎_elim}
 use mathlib.Core.Bool.{Bool, true, false, not, ◌&&◌, ◌||◌}
@@ -10,7 +10,7 @@ use borrow.Author.Tests.{eqb-true, eqb-false, eq-eqb, ne_eqb}
 use lib.Dec.{eqb}
 use Rattle.base.proofs.BoolLaws.{decided, left, right, both, or_left, or_right, or_cases, not-fails, fails-not, fails-if, clashes, order}
 use Rattle.base.proofs.TestLaws.{any_at, none_any}
-use Rattle.std.specs.Prelude.{None, Option, Some}
+use Rattle.std.specs.Prelude.{Option, Some, None}
 use Rattle.rules.specs.File.{Board, board_of, cells_of}
 use Rattle.rules.specs.Drivers.{driver_at, controlled, control_for, always_on, on_net, output_of, Of}
 use Rattle.rules.specs.Refusals.{clash, clashing}
@@ -19,10 +19,9 @@ use Rattle.rules.specs.declared.Net.{Net}
 use Rattle.rules.proofs.NetSetLaws.{kinds-differ}
 use Rattle.rules.proofs.DriverLaws.{is-driver, no-driver}
 use Rattle.words.specs.Sets.{plus}
-use Rattle.chains.specs.Table.{NetOf, room, head_in, link_in}
+use Rattle.chains.specs.Table.{NetOf, room, entry_of, head_in, link_in}
 use Rattle.chains.specs.Chains.{last, keyed, Chains}
 use Rattle.chains.proofs.Chaining.{last-le, last-member, last-above, last-again, keyed-net}
-use Rattle.chains.proofs.Walks.{above}
 use Rattle.nets.specs.Nets.{Alone, Several}
 
 -- the walk has come down to `at`: what is passed are drivers of control cells that are met, each of another
@@ -104,13 +103,13 @@ module _ (b : Board) (n : ℕ) where
         apart = λ c d l m h o u e. none_between b.size d l (omega arith) u;
       }
 
-  module _ (at : ℕ) (met : ℕ → Bool) (w : Met b n at met) (positive : 0 < at) where
-    met-on : output_of b n (at - 1) ≡ true
-    met-on = sym (keyed-net b n (at - 1)) ∙ last-member at (keyed b NetOf n) (at - 1) (w.top ∙ sym (above at positive))
+  module _ (cell : ℕ) (met : ℕ → Bool) (w : Met b n (suc cell) met) where
+    met-on : output_of b n cell ≡ true
+    met-on = sym (keyed-net b n cell) ∙ last-member _ (keyed b NetOf n) cell w.top
 
-    module _ (k : Position) (m : Net) (e : driver_at b (at - 1) ≡ Of k m) where
-      own : control_for b (at - 1) ≡ k.0
-      own = (is-driver b (at - 1) k m e).1
+    module _ (k : Position) (m : Net) (e : driver_at b cell ≡ Of k m) where
+      own : control_for b cell ≡ k.0
+      own = (is-driver b cell k m e).1
 
       -- its control cell is met again
       again-clashes : met k.0 ≡ true → true ≡ clashing b n
@@ -118,21 +117,21 @@ module _ (b : Board) (n : ℕ) where
           let c = w.bringers k.0 t in
           let u = w.under in
           let up = c.1 in
-          clash-at c.0 (at - 1) c.2 (omega arith)
+          clash-at c.0 cell c.2 (omega arith)
           (record {
             two = λ q. omega arith;
             first = c.3;
             second = met-on;
-            why = inr (c.4, (is-driver b (at - 1) k m e).0, c.5 ∙ sym own);
+            why = inr (c.4, (is-driver b cell k m e).0, c.5 ∙ sym own);
           })
 
       -- or it is new
-      met_next : (more : ℕ → Bool) → met k.0 ≡ false → more ≡ plus met k.0 → Met b n (last (at - 1) (keyed b NetOf n)) more
+      met_next : (more : ℕ → Bool) → met k.0 ≡ false → more ≡ plus met k.0 → Met b n (last cell (keyed b NetOf n)) more
       met_next more new grown =
-          let v = last-le (at - 1) (keyed b NetOf n) in
+          let v = last-le cell (keyed b NetOf n) in
           let u = w.under in
           record {
-            top = last-again (at - 1) (keyed b NetOf n);
+            top = last-again cell (keyed b NetOf n);
             under = omega arith;
             drivers = drivers-are;
             bringers = bringers-are;
@@ -143,33 +142,33 @@ module _ (b : Board) (n : ℕ) where
           more-at j = ap (λ (f : ℕ → Bool). f j) grown
 
           -- what is passed is the cell itself or above it
-          passed : {A : Type 0} (c : ℕ) → last (at - 1) (keyed b NetOf n) ≤ c → output_of b n c ≡ true → (c ≡ at - 1 → A) → (at ≤ c → A) → A
+          passed : {A : Type 0} (c : ℕ) → last cell (keyed b NetOf n) ≤ c → output_of b n c ≡ true → (c ≡ cell → A) → (suc cell ≤ c → A) → A
           passed c l o here there =
               ⊎_elim
-              (λ (q : c < at - 1). absurd (none_between (at - 1) c l q o))
-              (λ (q : at - 1 ≤ c). ⊎_elim (λ (r : c < at). here (omega arith)) (λ (r : at ≤ c). there r) (order c at))
-              (order c (at - 1))
+              (λ (q : c < cell). absurd (none_between cell c l q o))
+              (λ (q : cell ≤ c). ⊎_elim (λ (r : c < suc cell). here (omega arith)) (λ (r : suc cell ≤ c). there r) (order c (suc cell)))
+              (order c cell)
 
-          drivers-are : (c : ℕ) → last (at - 1) (keyed b NetOf n) ≤ c → c < b.size → output_of b n c ≡ true → (controlled b c ≡ true) × (more (control_for b c) ≡ true)
+          drivers-are : (c : ℕ) → last cell (keyed b NetOf n) ≤ c → c < b.size → output_of b n c ≡ true → (controlled b c ≡ true) × (more (control_for b c) ≡ true)
           drivers-are c l m o =
               passed c l o
-              (λ (q : c ≡ at - 1). rw q ((is-driver b (at - 1) k _ e).0, more-at (control_for b (at - 1)) ∙ or_left _ (eq-eqb _ _ own)))
-              (λ (q : at ≤ c). let d = w.drivers c q m o in (d.0, more-at (control_for b c) ∙ or_right (eqb (control_for b c) k.0) d.1))
+              (λ (q : c ≡ cell). rw q ((is-driver b cell k _ e).0, more-at (control_for b cell) ∙ or_left _ (eq-eqb _ _ own)))
+              (λ (q : suc cell ≤ c). let d = w.drivers c q m o in (d.0, more-at (control_for b c) ∙ or_right (eqb (control_for b c) k.0) d.1))
 
-          bringers-are : (j : ℕ) → more j ≡ true → (c : ℕ) × (last (at - 1) (keyed b NetOf n) ≤ c) × (c < b.size) × (output_of b n c ≡ true) × (controlled b c ≡ true) × (control_for b c ≡ j)
+          bringers-are : (j : ℕ) → more j ≡ true → (c : ℕ) × (last cell (keyed b NetOf n) ≤ c) × (c < b.size) × (output_of b n c ≡ true) × (controlled b c ≡ true) × (control_for b c ≡ j)
           bringers-are j t =
-              let v = last-le (at - 1) (keyed b NetOf n) in
+              let v = last-le cell (keyed b NetOf n) in
               let u = w.under in
               ⊎_elim
-              (λ (q : eqb j k.0 ≡ true). (at - 1, v, omega arith, met-on, (is-driver b (at - 1) k _ e).0, own ∙ sym (eqb-true j k.0 q)))
+              (λ (q : eqb j k.0 ≡ true). (cell, v, omega arith, met-on, (is-driver b cell k _ e).0, own ∙ sym (eqb-true j k.0 q)))
               (λ (q : met j ≡ true). let c = w.bringers j q in let h = c.1 in (c.0, omega arith, c.2, c.3, c.4, c.5))
               (or_cases (eqb j k.0) (sym (more-at j) ∙ t))
 
-          apart-are : (c d : ℕ) → last (at - 1) (keyed b NetOf n) ≤ d → d < c → c < b.size → output_of b n c ≡ true → output_of b n d ≡ true → control_for b c ≡ control_for b d → ⊥
+          apart-are : (c d : ℕ) → last cell (keyed b NetOf n) ≤ d → d < c → c < b.size → output_of b n c ≡ true → output_of b n d ≡ true → control_for b c ≡ control_for b d → ⊥
           apart-are c d l m h o u q =
               passed d l u
-              (λ (r : d ≡ at - 1). clashes (ap met (sym (q ∙ ap (control_for b) r ∙ own)) ∙ (w.drivers c (omega arith) h o).1) new)
-              (λ (r : at ≤ d). w.apart c d r m h o u q)
+              (λ (r : d ≡ cell). clashes (ap met (sym (q ∙ ap (control_for b) r ∙ own)) ∙ (w.drivers c (omega arith) h o).1) new)
+              (λ (r : suc cell ≤ d). w.apart c d r m h o u q)
 
   -- all are passed
   met-ended : (met : ℕ → Bool) → Met b n 0 met → clashing b n ≡ false
@@ -202,32 +201,34 @@ module _ (file t : List ℕ) (chains : Chains file NetOf t) (n : ℕ) where
   unfolding board_of
   meeting-start l at e met none = rw (e, chains.linked.head n l) (met-none (board_of file) n met none)
 
-  pub meeting-on : (at cell : ℕ) (met : ℕ → Bool) → Meeting at met → 0 < at → cell ≡ at - 1 → output_of (board_of file) n cell ≡ true
-  meeting-on at cell met w positive e = rw e (met-on (board_of file) n at met w positive)
+  -- the step's cell, which `at` names, is an output of the net
+  pub meeting-on : (at : Option Position) (cell : Position) (met : ℕ → Bool) → Meeting (entry_of at) met → at ≡ Some cell → output_of (board_of file) n cell.0 ≡ true
+  meeting-on at cell met w named = met-on (board_of file) n cell.0 met (rw named at w)
 
-  pub meeting-again : (at cell : ℕ) (met : ℕ → Bool) → Meeting at met → 0 < at → cell ≡ at - 1 → (k : Position) (m : Net) → driver_at (board_of file) cell ≡ Of k m
-      → met k.0 ≡ true → true ≡ clashing (board_of file) n
-  meeting-again at cell met w positive e k m d t = again-clashes (board_of file) n at met w positive k m (ap (driver_at (board_of file)) (sym e) ∙ d) t
+  pub meeting-again : (at : Option Position) (cell : Position) (met : ℕ → Bool) → Meeting (entry_of at) met → at ≡ Some cell
+      → (k : Position) (m : Net) → driver_at (board_of file) cell.0 ≡ Of k m → met k.0 ≡ true → true ≡ clashing (board_of file) n
+  meeting-again at cell met w named k m d t = again-clashes (board_of file) n cell.0 met (rw named at w) k m d t
 
-  pub meeting-next : (at cell next : ℕ) (met more : ℕ → Bool) → Meeting at met → 0 < at → cell ≡ at - 1 → (k : Position) (m : Net) → driver_at (board_of file) cell ≡ Of k m
-      → met k.0 ≡ false → more ≡ plus met k.0 → next ≡ link_in NetOf t cell → Meeting next more
+  pub meeting-next : (at : Option Position) (cell : Position) (next : Option Position) (met more : ℕ → Bool) → Meeting (entry_of at) met → at ≡ Some cell
+      → (k : Position) (m : Net) → driver_at (board_of file) cell.0 ≡ Of k m → met k.0 ≡ false → more ≡ plus met k.0
+      → entry_of next ≡ link_in NetOf t cell.0 → Meeting (entry_of next) more
   unfolding board_of
-  meeting-next at cell next met more w positive e k m d new grown f =
-      let u = w.under in
-      let on = keyed-net (board_of file) n (at - 1) ∙ met-on (board_of file) n at met w positive in
-      rw (f, e, chains.linked.link (at - 1) n (omega arith) on)
-      (met_next (board_of file) n at met w positive k m (ap (driver_at (board_of file)) (sym e) ∙ d) more new grown)
+  meeting-next at cell next met more w named k m d new grown e =
+      let now : Meeting (suc cell.0) met = rw named at w in
+      let u = now.under in
+      let on = keyed-net (board_of file) n cell.0 ∙ met-on (board_of file) n cell.0 met now in
+      rw (e, chains.linked.link cell.0 n (omega arith) on) (met_next (board_of file) n cell.0 met now k m d more new grown)
 
-  pub meeting-ended : (at : ℕ) (met : ℕ → Bool) → Meeting at met → at ≤ 0 → false ≡ clashing (board_of file) n
-  meeting-ended at met w z = let e : at ≡ 0 = omega arith in sym (met-ended (board_of file) n met (rw e at w))
+  pub meeting-ended : (at : Option Position) (met : ℕ → Bool) → Meeting (entry_of at) met → at ≡ None → false ≡ clashing (board_of file) n
+  meeting-ended at met w ended = sym (met-ended (board_of file) n met (rw ended at w))
 
   -- no head, or no link of the head: one output at most; else beside each there is another
   pub none-alone : n < room NetOf → head_in NetOf t n ≡ 0 → Alone (board_of file) n
   unfolding board_of
   none-alone l z = record { only = λ c d lc ld o u. absurd (none_between (board_of file) n (cells_of file) c (let h = chains.linked.head n l in omega arith) lc o) }
 
-  module _ (l : n < room NetOf) (at cell : ℕ) (e : at ≡ head_in NetOf t n) (positive : 0 < at) (named : cell ≡ at - 1) where
-    top : last (cells_of file) (keyed (board_of file) NetOf n) ≡ at
+  module _ (l : n < room NetOf) (cell : ℕ) (e : suc cell ≡ head_in NetOf t n) where
+    top : last (cells_of file) (keyed (board_of file) NetOf n) ≡ suc cell
     top = sym (e ∙ chains.linked.head n l)
 
     pub head-below : (cell < cells_of file) × (output_of (board_of file) n cell ≡ true)
@@ -235,7 +236,7 @@ module _ (file t : List ℕ) (chains : Chains file NetOf t) (n : ℕ) where
     head-below =
         let u = last-le (cells_of file) (keyed (board_of file) NetOf n) in
         let p = top in
-        (omega arith, sym (keyed-net (board_of file) n cell) ∙ last-member (cells_of file) (keyed (board_of file) NetOf n) cell (top ∙ (omega arith)))
+        (omega arith, sym (keyed-net (board_of file) n cell) ∙ last-member (cells_of file) (keyed (board_of file) NetOf n) cell top)
 
     second : link_in NetOf t cell ≡ last cell (keyed (board_of file) NetOf n)
     second = chains.linked.link cell n head-below.0 (keyed-net (board_of file) n cell ∙ head-below.1)

@@ -1,24 +1,33 @@
 -- Refusals 7 to 9 over the table: a head that is none is an undriven net, a count is the number of drivers.
 use Prim.Native.Nat.{ℕ, zero, suc, ◌<◌, ◌≤◌}
 use mathlib.Core.Path.{◌≡◌, refl, sym, ◌∙◌, ap, ap₂}
-use mathlib.Core.Bool.{Bool, cond, not, ◌||◌, true, false}
+use mathlib.Core.Bool.{Bool, cond, not, ◌||◌, true, false, false≢true}
 use mathlib.Core.List.{List, [], ◌∷◌, ◌++◌}
 use native.Mathlib.Omega.{arith}
 use borrow.Author.Tests.{ne_eqb}
 use lib.Dec.{eqb, ltb}
+use Rattle.std.specs.Prelude.{Option, Some, None, is_some}
 use Rattle.base.specs.Tests.{any}
 use Rattle.base.proofs.BoolLaws.{same_test}
 use Rattle.base.proofs.TestLaws.{any_at, any-member}
 use Rattle.rules.specs.File.{board_of, cells_of, nets_of}
 use Rattle.rules.specs.Drivers.{drivers}
 use Rattle.rules.specs.Refusals.{Check, judge, each, undriven, clashing, crowded, most_drivers, most_nets, net_checks, Verdict}
+use Rattle.rules.specs.declared.Position.{Position}
 use Rattle.rules.proofs.Shape.{laid, shaped}
 use Rattle.rules.proofs.Verdicts.{and_then, Then, judge-then, judge-same}
-use Rattle.chains.specs.Table.{NetOf}
+use Rattle.chains.specs.Table.{NetOf, entry_of}
 use Rattle.chains.specs.Chains.{keyed, last}
 use Rattle.chains.specs.Filling.{Filled}
 use Rattle.chains.proofs.Chaining.{keyed-net}
 use Rattle.nets.specs.Nets.{undriven_in, crowded_in}
+
+-- an entry is 0 exactly where it names none
+pub none-zero : (at : Option Position) (entry : ℕ) (none : Bool) → entry_of at ≡ entry → is_some at ≡ not none → none ≡ eqb entry 0
+none-zero None entry true e h = rw (← e)
+none-zero None entry false e h = absurd (false≢true h)
+none-zero (Some c) entry true e h = absurd (false≢true (sym h))
+none-zero (Some c) entry false e h = rw (← e) (sym (ne_eqb (suc c.0) 0 (λ z. omega arith)))
 
 -- the last is none where none passes
 last_none : (n : ℕ) (p : ℕ → Bool) → eqb (last n p) 0 ≡ not (any n p)

@@ -10,8 +10,8 @@ ghost use Rattle.chains.specs.Filling.{Filled};
 ghost use Rattle.nets.specs.Nets.{undriven_in, crowded_in, Alone, Several};
 
 use cells::driver_at;
-use chains::{TABLE, cell_named, drivers_on, net_head, net_link};
-use rules::{Driver, MOST_DRIVERS, Net, Verdict};
+use chains::{TABLE, drivers_on, net_head, net_link};
+use rules::{MOST_DRIVERS, Net, Verdict};
 use words::{CELL_WORDS, loops};
 
 // Refusal 7: a net without an output.
@@ -19,14 +19,7 @@ fn undriven_verdict(table: &[u16; TABLE], nets: usize) -> Verdict
     requires { nets ≤ most_nets }
     ensures { result ≡ judge (each 7 nets (undriven_in table.now) ∷ []) }
 {
-    let mut n = 0;
-    while n < nets {
-        if net_head(table, Net(n as u16)) == 0 {
-            return rules::refuse(7, n);
-        }
-        n += 1;
-    }
-    Verdict::Accepted
+    rules::each(7, nets, |n| net_head(table, Net(n as u16)).is_none())
 }
 
 // Net n has at most one output.
@@ -36,11 +29,10 @@ fn alone(file: &[u8], table: &[u16; TABLE], n: Net) -> bool
     ensures alone { result ≡ true → Alone (board_of file.now) n.0 }
     ensures several { result ≡ false → Several (board_of file.now) n.0 }
 {
-    let at = net_head(table, n);
-    if at == 0 {
+    let Some(highest) = net_head(table, n) else {
         return true;
-    }
-    net_link(table, cell_named(at)) == 0
+    };
+    net_link(table, highest).is_none()
 }
 
 // Two of net n's outputs clash, where there are several: one of them is always on, or the control cell
@@ -53,13 +45,11 @@ fn several_clash(file: &[u8], table: &[u16; TABLE], n: Net) -> bool
 {
     let mut met = [0u64; CELL_WORDS];
     let mut at = net_head(table, n);
-    while 0 < at {
-        let c = cell_named(at);
-        let driver = driver_at(file, c);
-        let Driver::Of(k, _) = driver else {
+    while let Some(c) = at {
+        let Some(driver) = driver_at(file, c) else {
             return true;
         };
-        if loops::add_again(&mut met, k.0 as usize) {
+        if loops::add_again(&mut met, driver.control.0 as usize) {
             return true;
         }
         at = net_link(table, c);
@@ -73,10 +63,7 @@ fn clashes(file: &[u8], table: &[u16; TABLE], n: Net) -> bool
     requires n_bound { n.0 < nets_of file.now }
     ensures { result ≡ clashing (board_of file.now) n.0 }
 {
-    if alone(file, table, n) {
-        return false;
-    }
-    several_clash(file, table, n)
+    !alone(file, table, n) && several_clash(file, table, n)
 }
 
 // Refusal 8: a net two of whose outputs clash.
@@ -85,29 +72,16 @@ fn clash_verdict(file: &[u8], table: &[u16; TABLE], nets: usize) -> Verdict
     requires nets_value { nets ≡ nets_of file.now }
     ensures { result ≡ judge (each 8 (nets_of file.now) (clashing (board_of file.now)) ∷ []) }
 {
-    let mut n = 0;
-    while n < nets {
-        if clashes(file, table, Net(n as u16)) {
-            return rules::refuse(8, n);
-        }
-        n += 1;
-    }
-    Verdict::Accepted
+    rules::each(8, nets, |n| clashes(file, table, Net(n as u16)))
 }
 
 // Refusal 9: a net with over 16 controlled drivers.
+#[tactic(auto, unfolding(crate::specs::Nets::crowded_in))]
 fn crowded_verdict(table: &[u16; TABLE], nets: usize) -> Verdict
     requires { nets ≤ most_nets }
     ensures { result ≡ judge (each 9 nets (crowded_in table.now) ∷ []) }
 {
-    let mut n = 0;
-    while n < nets {
-        if MOST_DRIVERS < drivers_on(table, Net(n as u16)) {
-            return rules::refuse(9, n);
-        }
-        n += 1;
-    }
-    Verdict::Accepted
+    rules::each(9, nets, |n| MOST_DRIVERS < drivers_on(table, Net(n as u16)))
 }
 
 // Refusals 7 to 9, over the chains of outputs by net and the numbers of drivers.
@@ -116,13 +90,7 @@ pub fn nets_verdict(file: &[u8], table: &[u16; TABLE], nets: usize) -> Verdict
     requires nets_value { nets ≡ nets_of file.now }
     ensures { result ≡ judge (net_checks (board_of file.now)) }
 {
-    let undriven = undriven_verdict(table, nets);
-    let Verdict::Accepted = undriven else {
-        return undriven;
-    };
-    let clash = clash_verdict(file, table, nets);
-    let Verdict::Accepted = clash else {
-        return clash;
-    };
+    undriven_verdict(table, nets)?;
+    clash_verdict(file, table, nets)?;
     crowded_verdict(table, nets)
 }
