@@ -21,6 +21,7 @@ use rules::{Position, Verdict};
 use words::{NET_WORDS, NetSet, Relation};
 
 // Two net sets, read where they stand, meet and neither holds the other.
+#[tactic(auto, unfolding(crate::specs::Controls::is_crossing))]
 fn sets_cross(a: &[u64; NET_WORDS], b: &[u64; NET_WORDS]) -> bool
     ensures { result ≡ is_crossing (relation_of (64 * net_words) (member a.now) (member b.now)) }
 {
@@ -38,9 +39,9 @@ fn crosser_of(file: &[u8], table: &[u16; TABLE], cells: usize, i: Position) -> O
     requires i_lt_cells { i.0 < cells }
     ensures { result ≡ crosser_of (board_of file.now) i.0 }
 {
-    if head(table, i).is_none() {
+    let Some(_) = head(table, i) else {
         return None;
-    }
+    };
     let mine = nets_of(file, table, i);
     let met = partners(file, table, i);
     let mut j = met.next(i.0 as usize + 1);
@@ -116,12 +117,7 @@ fn unequal_verdict(file: &[u8], table: &[u16; TABLE], cells: usize) -> Verdict
     requires cells_value { cells ≡ cells_of file.now }
     ensures { result ≡ judge (each 11 (cells_of file.now) (unequal (board_of file.now)) ∷ []) }
 {
-    let unequal = |k: usize| -> bool
-        requires filled { Filled file.now table.now }
-        requires k_bound { k < cells_of file.now }
-        ensures { result ≡ unequal (board_of file.entry.now) k }
-    { differ(file, table, Position(k as u16)) };
-    rules::each(11, cells, unequal)
+    rules::each(11, cells, |k| differ(file, table, Position(k as u16)))
 }
 
 // Refusals 10 and 11, one after the other.

@@ -70,10 +70,6 @@ returns c =
     let t = c.loop-j-test.false in
     search-ended _ (c.requires.filled.by-control.checked) _ _ c.loop-j.invariant (omega arith)
 
-pub returns-then-head-eq0 : goal.returns-then-head-eq0
-returns-then-head-eq0 c =
-    idle-uncrossed _ _ c.requires.filled.by-control _ (own (goal.at.returns-then-head-eq0 c).Start) (sym c.head.ensures ∙ c.if-head-eq0.true)
-
 pub head-requires : goal.head-requires
 head-requires c = cell-fits _ (c.requires.filled.by-control.checked) _ (own (goal.at.head-requires c).Start)
 
@@ -99,3 +95,7 @@ nets_of-theirs-requires c = record { chains = c.requires.filled.by-control; k_bo
 
 pub overflow_add-j : goal.overflow_add-j
 overflow_add-j c = let f = fit (goal.at.overflow_add-j c).Start in let h = here (goal.at.overflow_add-j c).In-loop-j in omega arith
+
+pub returns-in_default : goal.returns-in_default
+returns-in_default c =
+    idle-uncrossed _ _ c.requires.filled.by-control _ (own (goal.at.returns-in_default c).Start) (sym c.in_default.ensures)

@@ -6,7 +6,7 @@ use Rattle.board.proofs.controls.crosser_of.Given as goal
 
 -- none up to j crosses i
 abbrev pub invariant-loop-j : goal.invariant-loop-j
-invariant-loop-j l = Uncrossed (board_of l.file) l.i.0 l.j
+invariant-loop-j l = Uncrossed (board_of l.file) l.fn.i.0 l.j
 
 abbrev pub decreases-loop-j : goal.decreases-loop-j
 decreases-loop-j l = l.cells - l.j

@@ -1,29 +1,31 @@
 -- The file's verdict, then the nets' and the control cells', in a row; the table is filled where the file is whole.
-use mathlib.Core.Path.{◌≡◌, sym, ◌∙◌}
-use Rattle.rules.specs.Refusals.{judge, file_checks, Accepted}
+use Rattle.std.proofs.Common.{refl, sym, ◌∙◌}
 use Rattle.rules.proofs.Shape.{laid, shaped, one_block}
-use Rattle.rules.proofs.Verdicts.{never, stopped, passed}
+use Rattle.rules.proofs.Verdicts.{never, given_on, stopped, passed}
 use Rattle.board.proofs.Order.{row-file, row-nets}
 use Rattle.board.proofs.verdict.examine.Goals as goal
-use Rattle.board.proofs.verdict.examine.Goals.{In-Accepted}
 
--- checks 1 to 6 accept the file
-whole : (c : In-Accepted) → judge (file_checks c.args.file.now) ≡ Accepted
-whole c = sym c.file_verdict-ok.ensures ∙ c.in-Accepted.is
+pub returns-in_err-file_verdict : goal.returns-in_err-file_verdict
+returns-in_err-file_verdict c =
+    let g = given_on _ c.from_residual.ensures.1 in
+    let e = g ∙ stopped (row-file _) c.in_err-file_verdict.ensures refl in
+    record { value = e; filled = λ a. absurd (never _ (sym g ∙ e ∙ a)) }
 
-pub returns-in_default : goal.returns-in_default
-returns-in_default c =
-    let e = stopped (row-file _) c.file_verdict-ok.ensures c.in_default.is in
-    record { value = e; filled = λ a. absurd (never _ (sym c.in_default.is ∙ e ∙ a)) }
+pub read_sizes-sizes-requires : goal.read_sizes-sizes-requires
+read_sizes-sizes-requires c = one_block _ (laid _ (shaped _ (sym c.in_ok-file_verdict.ensures)))
 
 pub fill_table-requires : goal.fill_table-requires
 fill_table-requires c =
-    record { checked = whole (goal.at.fill_table-requires c).In-Accepted; cells_are = c.read_sizes-sizes.ensures.cells; blank = c.requires }
+    record { checked = sym c.in_ok-file_verdict.ensures; cells_are = c.read_sizes-sizes.ensures.cells; blank = c.requires }
 
-pub returns-in_default-nets : goal.returns-in_default-nets
-returns-in_default-nets c =
-    let e = passed (row-file _) c.file_verdict-ok.ensures c.in-Accepted.is (stopped (row-nets _) c.nets_verdict-nets.ensures c.in_default-nets.is) in
-    record { value = e; filled = λ b. absurd (never _ (sym c.in_default-nets.is ∙ e ∙ b)) }
+pub nets_verdict-requires : goal.nets_verdict-requires
+nets_verdict-requires c = record { filled = c.fill_table.ensures; nets_value = c.read_sizes-sizes.ensures.nets }
+
+pub returns-in_err-nets_verdict : goal.returns-in_err-nets_verdict
+returns-in_err-nets_verdict c =
+    let g = given_on _ c.from_residual-in_err-nets_verdict.ensures.1 in
+    let e = g ∙ passed (row-file _) c.in_ok-file_verdict.ensures refl (stopped (row-nets _) c.in_err-nets_verdict.ensures refl) in
+    record { value = e; filled = λ b. absurd (never _ (sym g ∙ e ∙ b)) }
 
 pub controls_verdict-requires : goal.controls_verdict-requires
 controls_verdict-requires c =
@@ -33,13 +35,6 @@ controls_verdict-requires c =
 pub returns : goal.returns
 returns c =
     record {
-      value = passed (row-file _) c.file_verdict-ok.ensures c.in-Accepted.is
-          (passed (row-nets _) c.nets_verdict-nets.ensures c.in-Accepted-nets.is c.controls_verdict.ensures.value);
+      value = passed (row-file _) c.in_ok-file_verdict.ensures refl (passed (row-nets _) c.in_ok-nets_verdict.ensures refl c.controls_verdict.ensures.value);
       filled = λ b. c.controls_verdict.ensures.filled_2;
     }
-
-pub read_sizes-sizes-requires : goal.read_sizes-sizes-requires
-read_sizes-sizes-requires c = one_block _ (laid _ (shaped _ (whole c)))
-
-pub nets_verdict-nets-requires : goal.nets_verdict-nets-requires
-nets_verdict-nets-requires c = record { filled = c.fill_table.ensures; nets_value = c.read_sizes-sizes.ensures.nets }
