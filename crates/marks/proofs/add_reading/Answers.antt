@@ -43,10 +43,10 @@ pub bounds-table-c : goal.bounds-table-c
 bounds-table-c c = let l = c.requires.c_bound in let r = c.requires.readings.long in omega arith
 
 pub with-seen-requires : goal.with-seen-requires
-with-seen-requires c = fits (goal.at.with-seen-requires c).In-Of
+with-seen-requires c = (omega arith, fits (goal.at.with-seen-requires c).In-Of)
 
 pub overflow_add-net : goal.overflow_add-net
 overflow_add-net c = let f = fits (goal.at.overflow_add-net c).In-Of in omega arith
 
 pub with-joined-requires : goal.with-joined-requires
-with-joined-requires c = fits (goal.at.with-joined-requires c).In-Of
+with-joined-requires c = (omega arith, fits (goal.at.with-joined-requires c).In-Of)

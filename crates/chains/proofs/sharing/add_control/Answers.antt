@@ -21,7 +21,7 @@ returns-then-k-floor c = control-not-above _ _ _ _ _ (told (goal.at.returns-then
 
 pub with-requires : goal.with-requires
 with-requires c =
-    control-fits _ _ c.requires _ _ (told (goal.at.with-requires c).In-Of)
+    (omega arith, control-fits _ _ c.requires _ _ (told (goal.at.with-requires c).In-Of))
 
 pub returns : goal.returns
 returns c =

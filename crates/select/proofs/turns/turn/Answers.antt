@@ -45,4 +45,4 @@ returns c on h =
     holds_same (to-joined _ _ on _ _ c.in-Of.is m) (c.turn_on.ensures _ c.nets_of-nets.ensures on h)
 
 pub has-requires : goal.has-requires
-has-requires c = net-fits _ _ (on-board c) _ _ (at c).2
+has-requires c = (omega arith, net-fits _ _ (on-board c) _ _ (at c).2)
