@@ -31,7 +31,7 @@ pub enum Relation {
     Crossing,
 }
 
-// As many words as a set may have.
+// As many words as a set may have, for which a number of a member, or of members, fits a `usize`.
 pub trait FewWords<const W: usize> {
     ghost few: { W ≤ most_words };
 }
