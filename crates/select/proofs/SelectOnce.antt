@@ -14,10 +14,9 @@ use Rattle.base.specs.Lists.{has}
 use Rattle.base.proofs.BoolLaws.{order, below_suc}
 use Rattle.rules.specs.File.{board_of}
 use Rattle.rules.specs.Groups.{selected}
-use Rattle.words.specs.Sets.{cell_words, member, plus_if, up_to}
-use Rattle.words.specs.declared.CellSet.{CellSet}
+use Rattle.words.specs.Sets.{CellSet, cell_words, member, plus_if, up_to}
 use Rattle.words.proofs.SetLaws.{member-out, plus-passes, plus-fails, up_none, up-grown}
-use Rattle.words.proofs.WordsOnce.{Wide, cells-once}
+use Rattle.words.proofs.WordsOnce.{Wide, sets-once}
 use Rattle.chains.specs.Table.{ControlCell, spare_from, counts_from, spare_in, Same}
 use Rattle.chains.proofs.ChainsOnce.{SameLinks, tables-once}
 use Rattle.select.specs.Turns.{listed, Ready}
@@ -63,7 +62,7 @@ pub selected-once :
 selected-once file g earlier r s wr ws h k =
     let used = words-list earlier.words in
     let held = words-listed earlier.words in
-    cells-once r s wr ws (h used held ∙ sym (k used held))
+    sets-once r s wr ws (h used held ∙ sym (k used held))
 
 -- lists of entries that are equal are equal entry by entry
 entry-once : (t t' : List ℕ) (n : ℕ) → backwards t n ≡ backwards t' n → (i : ℕ) → i < n → spare_in t i ≡ spare_in t' i

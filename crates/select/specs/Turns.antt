@@ -7,8 +7,7 @@ use Rattle.rules.specs.Groups.{marked, pass}
 use Rattle.rules.specs.Refusals.{judge, board_checks, most_cells, Accepted}
 use Rattle.rules.specs.declared.Position.{Position}
 use Rattle.rules.specs.declared.Driver.{Driver}
-use Rattle.words.specs.Sets.{net_words, member, meets_in}
-use Rattle.words.specs.declared.NetSet.{NetSet}
+use Rattle.words.specs.Sets.{NetSet, net_words, member, meets_in}
 use Rattle.chains.specs.Table.{ControlCell, table_size}
 use Rattle.chains.specs.Chains.{Chains}
 use Rattle.chains.specs.Counts.{Counted}

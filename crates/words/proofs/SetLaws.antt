@@ -12,6 +12,9 @@ use lib.Dec.{eqb, ltb}
 use lib.Bits.{bit_or, or_comm}
 use lib.ListN.{length, get_or, set, replicate, length-set, get_or-eq_default}
 use lib.Seq.{get_or-set_same, get_or-set_other}
+use Rattle.std.specs.List.{zip}
+use Rattle.std.proofs.lemmas.List.{get_or_default}
+use Rattle.std.proofs.lemmas.Slice.Zip.{get_or-zip}
 use Rattle.base.specs.Counting.{count}
 use Rattle.base.specs.Digits.{bit}
 use Rattle.base.proofs.BoolLaws.{decided, order, same_test}
@@ -38,6 +41,11 @@ pub members-at :
     (op : Bool → Bool → Bool) (a b : List ℕ) (j k : ℕ) → k < 64 →
     op (member a (64 * j + k)) (member b (64 * j + k)) ≡ op (bit (get_or a j 0) k) (bit (get_or b j 0) k)
 members-at op a b j k h = ap₂ op (member-at a j k h) (member-at b j k h)
+
+-- pair j of two lists of words is word j of each
+pub pair-at : (a b : List ℕ) → length a ≡ length b → (j : ℕ) (d : ℕ × ℕ) → j < length a → get_or (zip a b) j d ≡ (get_or a j 0, get_or b j 0)
+pair-at a b e j d l =
+    get_or-zip a b j d l (omega arith) ∙ ap₂ (λ (x y : ℕ). (x, y)) (get_or_default a j d.0 0 l) (get_or_default b j d.1 0 (omega arith))
 
 -- from i on a number of the same word is, as far on, a digit of that word shifted down to i
 pub member-from : (ws : List ℕ) (i : ℕ) {m : ℕ} → i ≤ m → m < 64 * (i / 64 + 1) → member ws m ≡ bit (get_or ws (i / 64) 0 / 2 ^ (i % 64)) (m - i)

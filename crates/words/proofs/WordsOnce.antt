@@ -9,9 +9,8 @@ use native.Mathlib.Omega.{arith}
 use lib.ListN.{length, get_or}
 use lib.Seq.{ext_get_or}
 use Rattle.base.proofs.DigitLaws.{bits-equal}
-use Rattle.words.specs.Sets.{net_words, cell_words, member}
-use Rattle.words.specs.declared.NetSet.{NetSet}
-use Rattle.words.specs.declared.CellSet.{CellSet}
+use Rattle.words.specs.Sets.{member}
+use Rattle.words.specs.declared.Set.{Set}
 use Rattle.words.proofs.SetLaws.{member-at}
 
 -- what the type of n words of 64 bits says of them
@@ -26,9 +25,6 @@ words-once a b wa wb e =
     (λ j l. bits-equal 64 (get_or a j 0) (get_or b j 0) (wa.each j (omega (arith, wa.long))) (wb.each j (omega (arith, wa.long)))
     (λ k h. sym (member-at a j k h) ∙ ap (λ (f : ℕ → Bool). f (64 * j + k)) e ∙ member-at b j k h))
 
--- sets of nets with the same members are equal, and so are sets of cells
-pub nets-once : (r s : NetSet) → Wide net_words r.words → Wide net_words s.words → member r.words ≡ member s.words → r ≡ s
-nets-once r s wr ws e = λ i. record { words = words-once r.words s.words wr ws e i }
-
-pub cells-once : (r s : CellSet) → Wide cell_words r.words → Wide cell_words s.words → member r.words ≡ member s.words → r ≡ s
-cells-once r s wr ws e = λ i. record { words = words-once r.words s.words wr ws e i }
+-- and so sets with the same members are: of nets, of cells, of any number of words
+pub sets-once : {n : ℕ} (r s : Set n) → Wide n r.words → Wide n s.words → member r.words ≡ member s.words → r ≡ s
+sets-once r s wr ws e = λ i. record { words = words-once r.words s.words wr ws e i }

@@ -7,6 +7,7 @@ use Rattle.rules.specs.File.{most_number}
 use Rattle.rules.specs.Refusals.{most_cells, most_nets}
 use Rattle.words.specs.declared.Relation.{Relation}
 use Rattle.words.specs.declared.Relation.TheVariants.{Apart, Inside, Holds, Equal, Crossing}
+use Rattle.words.specs.declared.Set.{Set}
 
 -- the words of a set of nets, and of a set of cells
 abbrev pub net_words : ℕ
@@ -14,6 +15,13 @@ net_words = (most_nets + 63) / 64
 
 abbrev pub cell_words : ℕ
 cell_words = (most_cells + 63) / 64
+
+-- a set of nets, and a set of cells
+abbrev pub NetSet : Type 0
+NetSet = Set net_words
+
+abbrev pub CellSet : Type 0
+CellSet = Set cell_words
 
 -- number i is in the set that the words hold
 unfoldable pub member : List ℕ → ℕ → Bool

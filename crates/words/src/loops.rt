@@ -42,15 +42,14 @@ pub fn add_again(words: &mut [u64], i: usize) -> bool
     after == before
 }
 
-// The members of `from` become members of `into`.
+// The members of `from` become members of `into`. (Of a slice that is written under a `zip` of `iter_mut` a proof
+// knows nothing afterwards, so here and in `flip` the other word is read by the word's place.)
 pub(crate) fn join(into: &mut [u64], from: &[u64])
     requires { Alike into.old from.now }
     ensures { member into.new ≡ either (member into.old) (member from.now) }
 {
-    let mut j = 0;
-    while j < into.len() {
-        into[j] = into[j] | from[j];
-        j += 1;
+    for (j, word) in into.iter_mut().enumerate() {
+        *word |= from[j];
     }
 }
 
@@ -59,10 +58,8 @@ pub(crate) fn flip(into: &mut [u64], from: &[u64])
     requires { Alike into.old from.now }
     ensures { member into.new ≡ unlike (member into.old) (member from.now) }
 {
-    let mut j = 0;
-    while j < into.len() {
-        into[j] = into[j] ^ from[j];
-        j += 1;
+    for (j, word) in into.iter_mut().enumerate() {
+        *word ^= from[j];
     }
 }
 
@@ -71,14 +68,7 @@ pub(crate) fn meets(a: &[u64], b: &[u64]) -> bool
     requires { Alike a.now b.now }
     ensures { result ≡ meets_in (64 * length a.now) (member a.now) (member b.now) }
 {
-    let mut j = 0;
-    while j < a.len() {
-        if a[j] & b[j] != 0 {
-            return true;
-        }
-        j += 1;
-    }
-    false
+    a.iter().zip(b).any(|(x, y)| *x & *y != 0)
 }
 
 // Each member of a is a member of b.
@@ -86,16 +76,7 @@ pub(crate) fn inside(a: &[u64], b: &[u64]) -> bool
     requires { Alike a.now b.now }
     ensures { result ≡ inside_in (64 * length a.now) (member a.now) (member b.now) }
 {
-    let mut j = 0;
-    while j < a.len() {
-        let own = a[j];
-        let other = b[j];
-        if own | other != other {
-            return false;
-        }
-        j += 1;
-    }
-    true
+    a.iter().zip(b).all(|(own, other)| *own | *other == *other)
 }
 
 // How the set a lies to the set b.
@@ -103,19 +84,18 @@ pub(crate) fn compare(a: &[u64], b: &[u64]) -> Relation
     requires { Alike a.now b.now }
     ensures { result ≡ relation_of (64 * length a.now) (member a.now) (member b.now) }
 {
-    if inside(a, b) {
-        if inside(b, a) {
-            return Relation::Equal;
+    match (inside(a, b), inside(b, a)) {
+        (true, true) => Relation::Equal,
+        (true, false) => Relation::Inside,
+        (false, true) => Relation::Holds,
+        (false, false) => {
+            if meets(a, b) {
+                Relation::Crossing
+            } else {
+                Relation::Apart
+            }
         }
-        return Relation::Inside;
     }
-    if inside(b, a) {
-        return Relation::Holds;
-    }
-    if meets(a, b) {
-        return Relation::Crossing;
-    }
-    Relation::Apart
 }
 
 // How many numbers are members of one and not of the other.
@@ -123,13 +103,10 @@ pub(crate) fn differing(a: &[u64], b: &[u64]) -> usize
     requires { Alike a.now b.now }
     ensures { result ≡ count (64 * length a.now) (λ m. xor (member a.now m) (member b.now m)) }
 {
-    let mut n: usize = 0;
-    let mut j = 0;
-    while j < a.len() {
-        n += u64::count_ones(a[j] ^ b[j]) as usize;
-        j += 1;
-    }
-    n
+    a.iter()
+        .zip(b)
+        .map(|(x, y)| u64::count_ones(*x ^ *y) as usize)
+        .sum()
 }
 
 // The word's k lowest ones: while there are more, the highest goes.
@@ -151,16 +128,14 @@ pub(crate) fn keep_lowest(words: &mut [u64], k: usize)
     ensures { member words.new ≡ among k (member words.old) }
 {
     let mut left = k;
-    let mut j = 0;
-    while j < words.len() {
-        let kept = cut(words[j], left);
-        words[j] = kept;
-        left -= u64::count_ones(kept) as usize;
-        j += 1;
+    for word in words.iter_mut() {
+        *word = cut(*word, left);
+        left -= u64::count_ones(*word) as usize;
     }
 }
 
-// The lowest member from `from` on, or 64 * the number of words where there is none.
+// The lowest member from `from` on, or 64 * the number of words where there is none. (A `for` over the words
+// would be no plainer: the first is read from a digit on, and i, which leaps from word to word, is the answer.)
 pub(crate) fn next(words: &[u64], from: usize) -> usize
     requires words_len_bound { length words.now ≤ most_words }
     requires from_bound { from ≤ 64 * length words.now }

@@ -20,7 +20,7 @@ returns-then-driver-floor c = control-not-above _ _ _ _ _ (told (goal.at.returns
 
 pub with-requires : goal.with-requires
 with-requires c =
-    control-fits _ _ c.requires _ _ (told (goal.at.with-requires c).In-Some)
+    (omega arith, control-fits _ _ c.requires _ _ (told (goal.at.with-requires c).In-Some))
 
 pub returns : goal.returns
 returns c =

@@ -1,11 +1,10 @@
 -- `words::loops::cut` meets its contract: while a word has more than k ones, its highest is not among the k lowest, and can go.
 use Prim.Native.Nat.{ℕ, ◌+◌, ◌*◌, ◌-◌, ◌%◌, ◌^◌, ◌≤◌, ◌<◌}
-use mathlib.Core.Path.{◌≡◌, refl, sym, ◌∙◌, ap, fun_ext}
+use mathlib.Core.Path.{◌≡◌, sym, ◌∙◌, ap, fun_ext}
 use mathlib.Core.Logic.{⊎_elim}
 use native.Mathlib.Nat.{two-pow-succ}
 use native.Mathlib.Omega.{arith}
 use lib.Count.{ones, count_leading_zeros, ones-le, leading_top}
-use lib.Pow.{pow_pos}
 use Rattle.base.specs.Digits.{bit}
 use Rattle.base.specs.Counting.{among}
 use Rattle.base.proofs.BoolLaws.{order}
@@ -56,21 +55,12 @@ pub loop-kept-preserved : goal.loop-kept-preserved
 loop-kept-preserved c =
     rw (top c).found (omega arith, dropped _ _ (top c) c.loop-kept-test.true ∙ c.loop-kept.invariant.1)
 
-pub returns : goal.returns
-returns c =
-    sym (among-whole 64 _ c.loop-kept.kept c.loop-kept.invariant.0 c.loop-kept-test.false) ∙ c.loop-kept.invariant.1
-
-pub loop-kept-init : goal.loop-kept-init
-loop-kept-init c = (omega arith, refl)
-
-pub overflow_cast-kept : goal.overflow_cast-kept
-overflow_cast-kept c = omega (arith, ones-le 64 c.loop-kept.kept c.loop-kept.invariant.0)
-
 pub overflow_sub-kept : goal.overflow_sub-kept
 overflow_sub-kept c = (top c).zeros
 
 pub overflow_sub-kept-in-loop-kept : goal.overflow_sub-kept-in-loop-kept
 overflow_sub-kept-in-loop-kept c = rw (top c).found (top c).within
 
-pub loop-kept-smaller : goal.loop-kept-smaller
-loop-kept-smaller c = rw (top c).found (omega (arith, top c, pow_pos (top c).place))
+pub returns : goal.returns
+returns c =
+    sym (among-whole 64 _ c.loop-kept.kept c.loop-kept.invariant.0 c.loop-kept-test.false) ∙ c.loop-kept.invariant.1

@@ -1,70 +1,75 @@
--- `words::loops::differing` meets its contract: n counts the numbers of the first j words, and the ones of two words combined by ^ are
--- those of the next.
-use Prim.Native.Nat.{ℕ, ◌+◌, ◌*◌, ◌^◌, ◌≤◌, ◌<◌}
-use mathlib.Core.Path.{◌≡◌, sym, ◌∙◌, ap}
-use mathlib.Core.Bool.{xor}
+-- `words::loops::differing` meets its contract: the ones of two words combined by ^ are the numbers of the word that differ.
+use Prim.Native.Nat.{ℕ, zero, suc, ◌+◌, ◌*◌, ◌^◌, ◌≤◌, ◌<◌}
+use mathlib.Core.Path.{◌≡◌, refl, sym, ◌∙◌, ap, ap₂}
+use mathlib.Core.Bool.{Bool, xor}
 use mathlib.Core.List.{List}
+use native.Mathlib.Numerals.{add-one}
 use native.Mathlib.Omega.{arith}
+use borrow.Author.Rules.{rules}
+use borrow.Author.Tests.{tests}
 use lib.Bits.{bit_xor, xor_lt}
 use lib.Count.{ones}
-use lib.ListN.{length, get_or}
+use lib.ListN.{length, get_or, take}
+use lib.Seq.{take-length}
+use Rattle.std.specs.List.{zip, sum_by}
+use Rattle.std.proofs.lemmas.Iterator.{YieldsList-from_slice, YieldsList-from_zip, YieldsList-from_map}
+use Rattle.std.proofs.lemmas.Iterator.Consumers.{sum_by_from_yields_List, fits_by_from_yields_list}
+use Rattle.std.proofs.lemmas.List.Sums.{sum_by_more}
+use Rattle.std.proofs.lemmas.Slice.Zip.{length-zip}
 use Rattle.base.specs.Counting.{count}
 use Rattle.base.specs.Digits.{bit}
 use Rattle.base.proofs.CountingLaws.{count_same, count-le}
 use Rattle.base.proofs.WordLaws.{bit-xor, count_bits}
-use Rattle.words.proofs.SetLaws.{members-at, words_count}
+use Rattle.words.specs.Sets.{member, Alike}
+use Rattle.words.proofs.SetLaws.{members-at, words_count, pair-at}
 use Rattle.words.proofs.loops.differing.Goals as goal
-use Rattle.words.proofs.loops.differing.Goals.{After-shared_slice_known-in-loop-j-1}
-use Rattle.words.proofs.loops.differing.Invariants.{differs}
 
--- what word j adds, the ones of the two words' ^, and that there are never too many
-record Step (a b : List ℕ) (j : ℕ) : Type 0 where
-  more : count (64 * (j + 1)) (differs a b) ≡ count (64 * j) (differs a b) + ones (bit_xor (get_or a j 0) (get_or b j 0))
-  count-bounded : count (64 * (j + 1)) (differs a b) ≤ 64 * (j + 1)
+-- how many digits two words do not share
+abbrev unshared : ℕ × ℕ → ℕ
+unshared p = ones (bit_xor p.0 p.1)
 
-step : (a b : List ℕ) (j : ℕ) → get_or a j 0 < 2 ^ 64 → get_or b j 0 < 2 ^ 64 → Step a b j
-step a b j x y =
-    let w = bit_xor (get_or a j 0) (get_or b j 0) in
-    let same = count_same 64 (λ k. differs a b (64 * j + k)) (bit w) (λ k h. members-at xor a b j k h ∙ sym (bit-xor (get_or a j 0) (get_or b j 0) k)) in
-    let here = same ∙ count_bits 64 w (xor_lt 64 (get_or a j 0) (get_or b j 0) x y) in
-    record {
-      more = words_count (differs a b) j ∙ ap (λ (n : ℕ). count (64 * j) (differs a b) + n) here;
-      count-bounded = count-le (64 * (j + 1)) _;
-    }
+-- m is in one of the two and not in the other
+abbrev differs : List ℕ → List ℕ → ℕ → Bool
+differs a b m = xor (member a m) (member b m)
 
-here : (c : After-shared_slice_known-in-loop-j-1) → Step c.args.a.now c.args.b.now c.loop-j.j
-here c =
-    let j = c.loop-j.j in
-    step _ _ j (c.shared_slice_known-1.given j).fits (c.shared_slice_known-in-loop-j-1.given j).fits
+module _ (a b : List ℕ) (s : Alike a b) (x : (j : ℕ) → get_or a j 0 < 2 ^ 64) (y : (j : ℕ) → get_or b j 0 < 2 ^ 64) where
+  -- of word j
+  word_at : (j : ℕ) → count 64 (λ k. differs a b (64 * j + k)) ≡ unshared (get_or a j 0, get_or b j 0)
+  word_at j =
+      let v = get_or a j 0 in
+      let w = get_or b j 0 in
+      count_same 64 (λ k. differs a b (64 * j + k)) (bit (bit_xor v w)) (λ k h. members-at xor a b j k h ∙ sym (bit-xor v w k))
+      ∙ count_bits 64 (bit_xor v w) (xor_lt 64 v w (x j) (y j))
 
-pub loop-j-preserved : goal.loop-j-preserved
-loop-j-preserved c = omega (arith, here c)
+  -- of the first j words
+  counted : (j : ℕ) → j ≤ length a → sum_by unshared (take j (zip a b)) ≡ count (64 * j) (differs a b)
+  unfolding count
+  counted zero h = refl
+  counted (suc j) h =
+      let more = sum_by_more unshared (zip a b) j (0, 0) (omega (arith, length-zip a b, s.long)) in
+      let here = ap unshared (pair-at a b s.long j (0, 0) (omega arith)) ∙ sym (word_at j) in
+      rw (← add-one j) (more ∙ ap₂ (λ (m n : ℕ). m + n) (counted j (omega arith)) here ∙ sym (words_count (differs a b) j))
+
+  -- of all
+  all_counted : sum_by unshared (zip a b) ≡ count (64 * length a) (differs a b)
+  all_counted =
+      let n : length (zip a b) ≡ length a = omega (arith, length-zip a b, s.long) in
+      let every = ap (λ (j : ℕ). take j (zip a b)) (sym n) ∙ take-length (zip a b) in
+      sym (ap (sum_by unshared) every) ∙ counted (length a) (omega arith)
+
+pub sum-requires-clause-fits : goal.sum-requires-clause-fits
+sum-requires-clause-fits c =
+    let a = c.args.a.now in
+    let b = c.args.b.now in
+    let n = all_counted a b c.requires (λ j. (c.type_inv.a j).fits) (λ j. (c.type_inv.b j).fits) in
+    fits_by_from_yields_list unshared (zip a b) c.map.result _
+    (YieldsList-from_map _ unshared (YieldsList-from_zip (YieldsList-from_slice a cc) (YieldsList-from_slice b cc)) c.map.ensures.closure (λ p r q k. search (rules, tests)))
+    (omega (arith, n, count-le (64 * length a) (differs a b)))
 
 pub returns : goal.returns
 returns c =
-    let e : c.loop-j.j ≡ length c.args.a.now = omega arith in
-    rw e at c.loop-j.invariant.1
-
-pub loop-j-init : goal.loop-j-init
-unfolding count
-loop-j-init c = (omega arith, omega arith)
-
-pub bounds-b-j : goal.bounds-b-j
-unfolding count
-bounds-b-j c = omega arith
-
-pub overflow_cast-n : goal.overflow_cast-n
-unfolding count
-overflow_cast-n c = omega (arith, here c)
-
-pub overflow_add-n : goal.overflow_add-n
-unfolding count
-overflow_add-n c = omega (arith, here c)
-
-pub overflow_add-j : goal.overflow_add-j
-unfolding count
-overflow_add-j c = omega arith
-
-pub loop-j-smaller : goal.loop-j-smaller
-unfolding count
-loop-j-smaller c = omega arith
+    let a = c.args.a.now in
+    let b = c.args.b.now in
+    sum_by_from_yields_List unshared (zip a b) c.map.result c.sum.result c.sum.ensures.ran
+    (YieldsList-from_map _ unshared (YieldsList-from_zip (YieldsList-from_slice a cc) (YieldsList-from_slice b cc)) c.map.ensures.closure (λ p r q k. search (rules, tests)))
+    ∙ all_counted a b c.requires (λ j. (c.type_inv.a j).fits) (λ j. (c.type_inv.b j).fits)

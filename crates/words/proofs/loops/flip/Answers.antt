@@ -4,7 +4,7 @@ use mathlib.Core.Bool.{xor}
 use native.Mathlib.Omega.{arith}
 use lib.Bits.{bit_xor}
 use Rattle.base.proofs.WordLaws.{bit-xor}
-use Rattle.words.proofs.SetLaws.{written_none, combined-more, combined-all}
+use Rattle.words.proofs.SetLaws.{combined-more, combined-all}
 use Rattle.words.proofs.loops.flip.Goals as goal
 
 pub loop-j-preserved : goal.loop-j-preserved
@@ -13,6 +13,3 @@ loop-j-preserved c = combined-more xor bit_xor bit-xor _ _ c.loop-j.invariant (o
 pub returns : goal.returns
 unfolding xor
 returns c = combined-all xor bit_xor bit-xor _ _ c.loop-j.invariant (omega arith) c.requires.long refl
-
-pub loop-j-init : goal.loop-j-init
-loop-j-init c = written_none _ _

@@ -1,22 +1,37 @@
--- `words::loops::inside` meets its contract: in the first j words each number of a is one of b, and a word joined to another is the other
--- just where its digits are among the other's.
-use Prim.Native.Nat.{ℕ, ◌+◌, ◌*◌, ◌^◌, ◌<◌}
+-- `words::loops::inside` meets its contract: a word joined to another is the other just where its digits are among the other's.
+use Prim.Native.Nat.{ℕ, ◌+◌, ◌*◌, ◌/◌, ◌%◌, ◌^◌, ◌<◌}
 use mathlib.Core.Path.{◌≡◌, refl, sym, ◌∙◌, ap}
-use mathlib.Core.Bool.{Bool, true, false, ◌||◌}
+use mathlib.Core.Logic.{⊎_elim}
+use mathlib.Core.Bool.{Bool, true, false, ◌||◌, not}
 use mathlib.Core.List.{List}
 use native.Mathlib.Omega.{arith}
+use borrow.Author.Rules.{rules}
+use borrow.Author.Tests.{tests, eq-eqb, eqb-true}
 use lib.Bits.{bit_or, or_lt}
+use lib.Dec.{eqb}
 use lib.ListN.{length, get_or}
-use Rattle.base.specs.Tests.{all}
+use Rattle.std.specs.List.{list_all, zip}
+use Rattle.std.proofs.lemmas.Iterator.{YieldsList-from_slice, YieldsList-from_zip}
+use Rattle.std.proofs.lemmas.Iterator.Search.{all_from_yields_List}
+use Rattle.std.proofs.lemmas.List.Folds.{list_all_at}
+use Rattle.std.proofs.lemmas.List.Sums.{list_all-from_AllPass}
+use Rattle.std.proofs.lemmas.Slice.Zip.{length-zip}
 use Rattle.base.specs.Digits.{bit}
-use Rattle.base.proofs.BoolLaws.{fails-if}
-use Rattle.base.proofs.TestLaws.{all-at, all_from}
+use Rattle.base.proofs.BoolLaws.{decided, clashes, fails-if}
+use Rattle.base.proofs.TestLaws.{all-at, all-fails}
 use Rattle.base.proofs.DigitLaws.{bits-equal}
 use Rattle.base.proofs.WordLaws.{bit-or}
-use Rattle.words.specs.Sets.{member, inside_in}
-use Rattle.words.proofs.SetLaws.{members-at, words_more}
+use Rattle.words.specs.Sets.{member, inside_in, Alike}
+use Rattle.words.proofs.SetLaws.{members-at, pair-at}
 use Rattle.words.proofs.loops.inside.Goals as goal
-use Rattle.words.proofs.loops.inside.Invariants.{within}
+
+-- the digits of the one word are among the other's
+abbrev joined : ℕ × ℕ → Bool
+joined p = eqb (bit_or p.0 p.1) p.1
+
+-- in the one set only if in the other
+abbrev within : Bool → Bool → Bool
+within x y = not x || y
 
 -- a digit joined to another is the other just where the other has it if the first has it
 absorbed : (x y : Bool) → (x || y) ≡ y → within x y ≡ true
@@ -27,39 +42,40 @@ absorbs : (x y : Bool) → within x y ≡ true → (x || y) ≡ y
 absorbs true y e = sym e
 absorbs false y e = refl
 
-module _ (a b : List ℕ) (j : ℕ) where
-  -- word j has no number of a that is not one of b, where a's word joined to b's is b's
-  each-here : bit_or (get_or a j 0) (get_or b j 0) ≡ get_or b j 0 → (k : ℕ) → k < 64 → within (member a (64 * j + k)) (member b (64 * j + k)) ≡ true
-  each-here e k h =
-      members-at within a b j k h
-      ∙ absorbed (bit (get_or a j 0) k) (bit (get_or b j 0) k) (sym (bit-or (get_or a j 0) (get_or b j 0) k) ∙ ap (λ (w : ℕ). bit w k) e)
-
-  -- and else some number of a is not one of b
-  fails-here :
-      j < length a → get_or a j 0 < 2 ^ 64 → get_or b j 0 < 2 ^ 64 → (bit_or (get_or a j 0) (get_or b j 0) ≡ get_or b j 0 → ⊥) →
-      inside_in (64 * length a) (member a) (member b) ≡ false
+module _ (a b : List ℕ) (s : Alike a b) (x : (j : ℕ) → get_or a j 0 < 2 ^ 64) (y : (j : ℕ) → get_or b j 0 < 2 ^ 64) where
+  -- where each number of a is one of b each word of a joined to b's is b's
+  whole : inside_in (64 * length a) (member a) (member b) ≡ true → list_all joined (zip a b) ≡ true
   unfolding inside_in
-  fails-here l x y e =
-      fails-if (all (64 * length a) (λ m. within (member a m) (member b m)))
-      (λ t. e (bits-equal 64 _ (get_or b j 0) (or_lt 64 (get_or a j 0) (get_or b j 0) x y) y
-      (λ k h. bit-or (get_or a j 0) (get_or b j 0) k
-      ∙ absorbs (bit (get_or a j 0) k) (bit (get_or b j 0) k) (sym (members-at within a b j k h) ∙ all-at (64 * length a) _ t (omega arith)))))
+  whole e = list_all-from_AllPass joined (zip a b) (λ j d l.
+      let h : j < length a = omega (arith, length-zip a b) in
+      let v = get_or a j 0 in
+      let w = get_or b j 0 in
+      ap joined (pair-at a b s.long j d h)
+      ∙ eq-eqb _ w (bits-equal 64 _ w (or_lt 64 v w (x j) (y j)) (y j)
+      (λ k q. bit-or v w k ∙ absorbs (bit v k) (bit w k) (sym (members-at within a b j k q) ∙ all-at (64 * length a) _ e (omega arith)))))
 
-pub returns-then-own-other : goal.returns-then-own-other
-returns-then-own-other c =
-    let a = c.args in
-    let j = c.loop-j.j in
-    sym (fails-here a.a.now a.b.now j c.loop-j-test.true
-    (c.shared_slice_known-1.given j).fits (c.shared_slice_known-in-loop-j-1.given j).fits c.if-own-other.true)
+  -- and where some number of a is not, its word of a is not
+  broken : inside_in (64 * length a) (member a) (member b) ≡ false → list_all joined (zip a b) ≡ false
+  unfolding inside_in
+  broken e =
+      let m = all-fails (64 * length a) (λ i. within (member a i) (member b i)) e in
+      let j = m.0 / 64 in
+      let k = m.0 % 64 in
+      let v = get_or a j 0 in
+      let w = get_or b j 0 in
+      let at : 64 * j + k ≡ m.0 = omega arith in
+      let digit = sym (members-at within a b j k (omega arith)) ∙ ap (λ (i : ℕ). within (member a i) (member b i)) at ∙ m.2 in
+      let h : j < length a = omega (arith, m.1) in
+      list_all_at joined (zip a b) j (0, 0) (omega (arith, length-zip a b, s.long))
+      (ap joined (pair-at a b s.long j (0, 0) h)
+      ∙ fails-if _ (λ t. clashes (absorbed (bit v k) (bit w k) (sym (bit-or v w k) ∙ ap (λ (u : ℕ). bit u k) (eqb-true _ w t))) digit))
 
-pub loop-j-preserved : goal.loop-j-preserved
-loop-j-preserved c =
-    let a = c.args in
-    (omega arith, words_more _ c.loop-j.j c.loop-j.invariant.1 (each-here a.a.now a.b.now c.loop-j.j c.if-own-other.false))
+  included : list_all joined (zip a b) ≡ inside_in (64 * length a) (member a) (member b)
+  included = ⊎_elim (λ e. whole e ∙ sym e) (λ e. broken e ∙ sym e) (decided (inside_in (64 * length a) (member a) (member b)))
 
 pub returns : goal.returns
-unfolding inside_in
-returns c = sym (all_from _ _ (λ i h. c.loop-j.invariant.1 i (omega arith)))
-
-pub loop-j-init : goal.loop-j-init
-loop-j-init c = (omega arith, λ i h. absurd (omega arith))
+returns c =
+    let a = c.args.a.now in
+    let b = c.args.b.now in
+    all_from_yields_List joined c.all.new.self _ c.all.result c.all.ensures.ran (YieldsList-from_zip (YieldsList-from_slice a cc) (YieldsList-from_slice b cc)) (λ p t q k. search (rules, tests))
+    ∙ included a b c.requires (λ j. (c.type_inv.a j).fits) (λ j. (c.type_inv.b j).fits)

@@ -4,7 +4,7 @@ use mathlib.Core.Bool.{◌||◌}
 use native.Mathlib.Omega.{arith}
 use lib.Bits.{bit_or}
 use Rattle.base.proofs.WordLaws.{bit-or}
-use Rattle.words.proofs.SetLaws.{written_none, combined-more, combined-all}
+use Rattle.words.proofs.SetLaws.{combined-more, combined-all}
 use Rattle.words.proofs.loops.join.Goals as goal
 
 pub loop-j-preserved : goal.loop-j-preserved
@@ -12,6 +12,3 @@ loop-j-preserved c = combined-more ◌||◌ bit_or bit-or _ _ c.loop-j.invariant
 
 pub returns : goal.returns
 returns c = combined-all ◌||◌ bit_or bit-or _ _ c.loop-j.invariant (omega arith) c.requires.long refl
-
-pub loop-j-init : goal.loop-j-init
-loop-j-init c = written_none _ _

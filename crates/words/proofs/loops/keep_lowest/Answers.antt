@@ -16,7 +16,7 @@ use Rattle.base.proofs.WordLaws.{count_bits}
 use Rattle.words.specs.Sets.{member}
 use Rattle.words.proofs.SetLaws.{member-at, member-out, members-count, written_none, written-more, written_all}
 use Rattle.words.proofs.loops.keep_lowest.Goals as goal
-use Rattle.words.proofs.loops.keep_lowest.Goals.{After-cut-kept}
+use Rattle.words.proofs.loops.keep_lowest.Goals.{After-cut}
 use Rattle.words.proofs.loops.keep_lowest.Invariants.{left_at}
 
 -- word j's own lowest, as many as are left, are its part of the k lowest
@@ -45,28 +45,26 @@ part ws k j kept h b =
     let c : count (64 * (j + 1)) (member ws) ≡ count (64 * j) (member ws) + count 64 own = rw e (members-count ws j 64 (omega arith)) in
     record { digits = λ i l. ap (λ (f : ℕ → Bool). f i) b ∙ part_at ws k j i l; within = omega arith; next = omega arith }
 
-pub loop-j-init : goal.loop-j-init
-unfolding count
-loop-j-init c = (written_none _ _, omega arith)
-
 -- the word that `cut` gave is word j's part, by the invariant
-here : (c : After-cut-kept) → Part c.args.words.now c.args.k c.loop-j.j c.cut-kept.result
+here : (c : After-cut) → Part c.args.words.now c.args.k c.loop-word.word-index c.cut.result
 here c =
-    let own = ap₂ (λ (n w : ℕ). among n (bit w)) c.loop-j.invariant.1 (c.loop-j.invariant.0.rest c.loop-j.j (omega arith)) in
-    part _ _ c.loop-j.j c.cut-kept.result (omega arith) (c.cut-kept.ensures ∙ own)
-
-pub loop-j-preserved : goal.loop-j-preserved
-loop-j-preserved c =
-    (written-more _ _ c.loop-j.invariant.0 (omega arith) c.cut-kept.result (here c).digits, ap (λ (n : ℕ). n - ones c.cut-kept.result) c.loop-j.invariant.1 ∙ (here c).next)
+    let own = ap₂ (λ (n w : ℕ). among n (bit w)) c.loop-word.invariant.1 (c.loop-word.invariant.0.rest c.loop-word.word-index (omega arith)) in
+    part _ _ c.loop-word.word-index c.cut.result (omega arith) (c.cut.ensures ∙ own)
 
 pub returns : goal.returns
 unfolding among
 returns c =
     let ws = c.args.words.now in
-    written_all _ _ c.loop-j.invariant.0 (omega arith) (λ i h. rw (member-out ws h))
+    written_all _ _ c.loop-word.invariant.0 (omega arith) (λ i h. rw (member-out ws h))
 
-pub overflow_cast-left : goal.overflow_cast-left
-overflow_cast-left c = omega (arith, (here c).within)
+pub loop-word-init : goal.loop-word-init
+unfolding count
+loop-word-init c = (written_none _ _, omega arith)
 
 pub overflow_sub-left : goal.overflow_sub-left
-overflow_sub-left c = omega (arith, (here c).within)
+overflow_sub-left c = omega (arith, (here (goal.at.overflow_sub-left c).After-cut).within)
+
+pub loop-word-preserved : goal.loop-word-preserved
+loop-word-preserved c =
+    let p = here (goal.at.loop-word-preserved c).After-cut in
+    (written-more _ _ c.loop-word.invariant.0 (omega arith) c.cut.result p.digits, ap (λ (n : ℕ). n - ones c.cut.result) c.loop-word.invariant.1 ∙ p.next)

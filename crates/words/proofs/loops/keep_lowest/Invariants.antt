@@ -2,7 +2,6 @@
 use Prim.Native.Nat.{ℕ, ◌*◌, ◌-◌}
 use mathlib.Core.Path.{◌≡◌}
 use mathlib.Core.List.{List}
-use lib.ListN.{length}
 use Rattle.base.specs.Counting.{count, among}
 use Rattle.words.specs.Sets.{member}
 use Rattle.words.proofs.SetLaws.{Written}
@@ -12,8 +11,5 @@ use Rattle.words.proofs.loops.keep_lowest.Given as goal
 abbrev pub left_at : List ℕ → ℕ → ℕ → ℕ
 left_at ws k j = k - count (64 * j) (member ws)
 
-abbrev pub invariant-loop-j : goal.invariant-loop-j
-invariant-loop-j l = Written (among l.k (member l.initial.words)) l.initial.words l.j l.words × (l.left ≡ left_at l.initial.words l.k l.j)
-
-abbrev pub decreases-loop-j : goal.decreases-loop-j
-decreases-loop-j l = length l.initial.words - l.j
+abbrev pub invariant-loop-word : goal.invariant-loop-word
+invariant-loop-word l = Written (among l.k (member l.initial.words)) l.initial.words l.word-index l.words × (l.left ≡ left_at l.initial.words l.k l.word-index)

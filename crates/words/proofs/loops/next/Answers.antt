@@ -65,12 +65,3 @@ returns c =
     let ws = c.args.words.now in
     let e : c.loop-i.i ≡ 64 * length ws = omega arith in
     e ∙ sym (seek-at (member ws) (rw e at c.loop-i.invariant.1))
-
-pub loop-i-init : goal.loop-i-init
-loop-i-init c = (omega arith, lowest-none _ (omega arith) (λ j l h. absurd (omega arith)))
-
-pub overflow_cast-result : goal.overflow_cast-result
-overflow_cast-result c = omega (arith, zeros c)
-
-pub overflow_add-result : goal.overflow_add-result
-overflow_add-result c = omega (arith, zeros c)
