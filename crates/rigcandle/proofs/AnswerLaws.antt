@@ -13,10 +13,6 @@ use Rattle.rules.specs.Answers.{Field, Outcome, unless, over, pack, packed, fiel
 use Rattle.rules.specs.Answers.{count_answer, count_outcome, groups_answer, groups_outcome, vector_answer, vector_outcome, marks_answer, marks_outcome}
 use Rattle.rules.specs.declared.Refusal.{Refusal}
 use Rattle.rules.proofs.Verdicts.{stopped, passed, then_append}
-use Rattle.plan.specs.declared.steps.Plan.{Plan}
-use Rattle.plan.specs.Planning.{PlanOf}
-use Rattle.rigcandle.specs.Asking.{PlannedAs}
-use Rattle.rigcandle.specs.declared.questions.Planned.TheVariants as planned
 
 -- what a call returned, and the buffer after it, are the outcome's
 abbrev pub Gives : ℕ → List ℕ → Outcome → Type 0
@@ -100,27 +96,3 @@ module _ (file : List ℕ) (ok : judge (count_checks file) ≡ Accepted) where
 -- a check by the number that it goes by
 pub check-by : (check : ℕ → Check) {x y : ℕ} {v : Verdict} → v ≡ judge (check x ∷ []) → x ≡ y → v ≡ judge (check y ∷ [])
 check-by check e h = e ∙ ap (λ (n : ℕ). judge (check n ∷ [])) h
-
--- what make_plan answers
-apart : (plan : Plan) (refusal : Refusal) → planned.Made plan ≡ planned.Refused refusal → ⊥
-apart plan refusal e = let z : ◌≡◌ {A = ℕ} 0 1 = cc in omega arith
-
-pub made_as : (file : List ℕ) (plan : Plan) → judge (count_checks file) ≡ Accepted → PlanOf (board_of file) plan → PlannedAs file (planned.Made plan)
-made_as file plan ok h =
-    record {
-      made = λ p e. (ok, subst (PlanOf (board_of file)) (same plan p e) h);
-      refused = λ r e. absurd (apart plan r e);
-    }
-  where
-    same : (a b : Plan) → planned.Made a ≡ planned.Made b → a ≡ b
-    same a b e = cc
-
-pub refused_as : (file : List ℕ) (refusal : Refusal) → judge (count_checks file) ≡ Refused refusal → PlannedAs file (planned.Refused refusal)
-refused_as file refusal e =
-    record {
-      made = λ p q. absurd (apart p refusal (sym q));
-      refused = λ r q. e ∙ ap Refused (same refusal r q);
-    }
-  where
-    same : (a b : Refusal) → planned.Refused a ≡ planned.Refused b → a ≡ b
-    same a b e = cc

@@ -16,74 +16,71 @@ use Rattle.plan.proofs.PlanningLaws.{small-plan, total-is, groups-within}
 use Rattle.rigcandle.proofs.AnswerLaws.{Gives, vector-refused, vector-accepted, first-decides, second-decides, check-by}
 use Rattle.rigcandle.proofs.AdmittedLaws.{cells-within}
 use Rattle.rules.specs.Answers.{vector_outcome, vector_answer}
+use Rattle.rigcandle.specs.Asking.{answer_bits}
+use Rattle.rules.proofs.Verdicts.{given_on}
 use Rattle.rigcandle.proofs.questions.answer_vector.Goals as goal
-use Rattle.rigcandle.proofs.questions.answer_vector.Goals.{After-once-known, After-once-room, After-plan_of-plan, In-Accepted}
+use Rattle.rigcandle.proofs.questions.answer_vector.Goals.{After-once, After-once-2, After-plan_of-plan, In_ok-once}
 
 small : (c : After-plan_of-plan) → c.read_sizes-cells.result.cells ≤ most_cells
 small c = cells-within _ c.requires.ready.accepted (c.read_sizes-cells.ensures.cells)
 
 -- the total is the board's
-total-of : (c : After-once-known) → c.total.result ≡ total_of (board_of (c.args.file.now))
+total-of : (c : After-once) → c.total.result ≡ total_of (board_of c.args.file.now)
 total-of c = c.total.ensures ∙ total-is _ _ c.plan_of-plan.ensures
 
-total-of-In-Accepted : (c : In-Accepted) → c.total.result ≡ total_of (board_of (c.args.file.now))
-total-of-In-Accepted c = c.total.ensures ∙ total-is _ _ c.plan_of-plan.ensures
-
-total-of-After-once-room : (c : After-once-room) → c.total.result ≡ total_of (board_of (c.args.file.now))
-total-of-After-once-room c = c.total.ensures ∙ total-is _ _ c.plan_of-plan.ensures
-
 -- what the number's check is, and the room's
-number_is : (c : After-once-known) → c.once-known.result ≡ judge (once 13 (leb (total_of (board_of (c.args.file.now))) (c.args.number)) ∷ [])
-number_is c = check-by (λ t. once 13 (leb t (c.args.number))) c.once-known.ensures (total-of c)
+number_is : (c : After-once) → c.once.result ≡ judge (once 13 (leb (total_of (board_of c.args.file.now)) c.args.number) ∷ [])
+number_is c = check-by (λ t. once 13 (leb t c.args.number)) c.once.ensures (total-of c)
 
-number_is-After-once-room : (c : After-once-room) → c.once-known.result ≡ judge (once 13 (leb (total_of (board_of (c.args.file.now))) (c.args.number)) ∷ [])
-number_is-After-once-room c = check-by (λ t. once 13 (leb t (c.args.number))) c.once-known.ensures (total-of-After-once-room c)
-
-room-is : (c : After-once-room) → c.once-room.result ≡ judge (vector_checks (c.args.file.now) (c.args.number) (c.args.out.now))
+room-is : (c : After-once-2) → c.once-2.result ≡ judge (vector_checks c.args.file.now c.args.number c.args.out.now)
 unfolding vector_checks
 room-is c =
-    let room = check-by (short (c.args.out.now)) c.once-room.ensures (c.row_bytes.ensures ∙ ap row_bytes (c.read_sizes-cells.ensures.cells)) in
-    second-decides _ c.requires.counted _ _ (number_is-After-once-room c) c.in-Accepted.is room
+    let room = check-by (short c.args.out.now) c.once-2.ensures (c.row_bytes.ensures ∙ ap row_bytes c.read_sizes-cells.ensures.cells) in
+    second-decides _ c.requires.counted _ _ (number_is (before c)) c.in_ok-once.was room
+  where
+    before : (c : After-once-2) → After-once
+    before c = ?
 
-pub returns-in_default : goal.returns-in_default
-unfolding vector_checks
-returns-in_default c =
-    let told = c.in_default.is in
-    let given : Gives c.verdict_bits.result c.args.out.now (vector_outcome (vector_answer c.args.file.now c.args.number c.args.out.now)) =
-    vector-refused c.verdict_bits.ensures told _ _ _ (first-decides _ c.requires.counted _ _ (number_is (goal.at.returns-in_default c).After-once-known) told) in
-    record { value = given.0; out_after = given.1 }
+pub returns-in_err-once : goal.returns-in_err-once
+unfolding answer_bits vector_checks
+returns-in_err-once c =
+    let told = c.in_err-once.was in
+    let number = first-decides _ c.requires.counted _ _ (number_is (goal.at.returns-in_err-once c).After-once) told in
+    let given = vector-refused refl refl _ _ _ (sym told ∙ number) in
+    record { value = rw (given_on _ c.from_residual.ensures.1) given.0; out_after = given.1 }
 
-pub returns-in_default-room : goal.returns-in_default-room
-returns-in_default-room c =
-    let given : Gives c.verdict_bits-in_default-room.result c.args.out.now (vector_outcome (vector_answer c.args.file.now c.args.number c.args.out.now)) =
-    vector-refused c.verdict_bits-in_default-room.ensures c.in_default-room.is _ _ _ (room-is (goal.at.returns-in_default-room c).After-once-room) in
-    record { value = given.0; out_after = given.1 }
+pub returns-in_err-once-2 : goal.returns-in_err-once-2
+unfolding answer_bits
+returns-in_err-once-2 c =
+    let given = vector-refused refl refl _ _ _ (sym c.in_err-once-2.was ∙ room-is (goal.at.returns-in_err-once-2 c).After-once-2) in
+    record { value = rw (given_on _ c.from_residual-in_err-once-2.ensures.1) given.0; out_after = given.1 }
 
 -- a known number is below it
-below : (c : In-Accepted) → c.args.number < total_of (board_of (c.args.file.now))
+below : (c : In_ok-once) → c.args.number < total_of (board_of (c.args.file.now))
 below c =
-    rw (← total-of-In-Accepted c) (leb-false _ _ (once-accepted _ _ (sym c.once-known.ensures ∙ c.in-Accepted.is)))
+    rw (← c.total.ensures ∙ total-is _ _ c.plan_of-plan.ensures) (leb-false _ _ (once-accepted 13 _ (sym c.in_ok-once.ensures)))
 
 pub write_vector-group-requires : goal.write_vector-group-requires
 write_vector-group-requires c =
-    let room = ltb-false _ _ (once-accepted _ _ (sym c.once-room.ensures ∙ c.in-Accepted-room.is)) in
+    let room = ltb-false _ _ (once-accepted 15 _ (sym c.in_ok-once-2.ensures)) in
     record {
       ready = c.requires.ready;
       cells_are = c.read_sizes-cells.ensures.cells;
       planned = c.plan_of-plan.ensures;
-      below = below (goal.at.write_vector-group-requires c).In-Accepted;
+      below = below (goal.at.write_vector-group-requires c).In_ok-once;
       long = rw (← c.row_bytes.ensures) room;
     }
 
 pub group_bits-requires : goal.group_bits-requires
 group_bits-requires c =
-    let g = (vector-group (board_of (c.args.file.now)) (c.args.number) (below (goal.at.group_bits-requires c).In-Accepted)).1 in
+    let g = (vector-group (board_of (c.args.file.now)) (c.args.number) (below (goal.at.group_bits-requires c).In_ok-once)).1 in
     let l = groups-within _ c.requires.ready.accepted in
     omega (arith, c.write_vector-group.ensures.value)
 
 pub returns : goal.returns
+unfolding answer_bits
 returns c =
-    let ok = sym (room-is (goal.at.returns c).After-once-room) ∙ c.in-Accepted-room.is in
+    let ok = sym (room-is (goal.at.returns c).After-once-2) ∙ c.in_ok-once-2.was in
     let given : Gives c.group_bits.result c.write_vector-group.new.out (vector_outcome (vector_answer c.args.file.now c.args.number c.args.out.now)) =
     vector-accepted _ _ _ c.group_bits.ensures ok c.write_vector-group.ensures.value c.write_vector-group.ensures.out_after in
     record { value = given.0; out_after = given.1 }

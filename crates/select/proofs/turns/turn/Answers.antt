@@ -8,7 +8,7 @@ use Rattle.select.proofs.turns.turn.Goals as goal
 pub has-requires : goal.has-requires
 has-requires c =
     let at = c.requires.on_board in
-    net-fits _ _ (record { checked = c.requires.ready.by-control.checked; below = at.1 }) _ _ at.2
+    (omega arith, net-fits _ _ (record { checked = c.requires.ready.by-control.checked; below = at.1 }) _ _ at.2)
 
 pub returns-then-has : goal.returns-then-has
 returns-then-has c on h =
