@@ -1,10 +1,10 @@
 -- `blocks::read_blocks` meets its contract, by the search for the lowest block that reading refuses; on the way each head is counted.
-use Rattle.std.proofs.Common.{◌+◌, [], arith}
+use Rattle.std.proofs.Common.{◌≡◌, ◌+◌, [], arith}
 use Rattle.base.proofs.TestLaws.{search-next}
 use Rattle.rules.specs.File.{blocks_in, cells_of}
 use Rattle.rules.proofs.CheckLaws.{found, ended}
 use Rattle.blocks.specs.Reading.{RightTo}
-use Rattle.blocks.proofs.Heading.{head-right, right-all, right-one-more, right-no-more}
+use Rattle.blocks.proofs.Heading.{head-right, right-one-more, right-no-more}
 use Rattle.blocks.proofs.Lengths.{right-length}
 use Rattle.blocks.proofs.ReadingLaws.{held, refused}
 use Rattle.blocks.proofs.Shaping.{given_on}
@@ -45,4 +45,4 @@ loop-i-preserved c = (search-next c.loop-i.invariant.0 (omega arith) (held _ _ c
 
 pub returns : goal.returns
 unfolding blocks_in
-returns c = (ended 2 c.loop-i.invariant.0 (omega arith), right-all _ _ _ _ c.loop-i.invariant.1 (omega arith))
+returns c = let e : blocks_in c.args.file.now ≡ c.loop-i.i = omega arith in (ended 2 c.loop-i.invariant.0 (omega arith), rw e c.loop-i.invariant.1)
