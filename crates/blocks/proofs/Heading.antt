@@ -1,12 +1,13 @@
 -- The heads of the blocks, from block 0 on: how many are right so far, and what that says of the header's and of each cell block's.
-use Rattle.std.proofs.Common.{◌≡◌, ℕ, zero, suc, ◌+◌, ◌<◌, ◌≤◌, Bool, true, false, ltb, ◌⊎◌, List, sym, refl, ◌∙◌, ⊎_elim, arith, le-ltb, lt-ltb, below_more}
+use Rattle.std.proofs.Common.{◌≡◌, ℕ, zero, suc, ◌+◌, ◌<◌, ◌≤◌, Bool, true, false, ◌&&◌, ltb, ◌⊎◌, List, sym, refl, ◌∙◌, ⊎_elim, arith, le-ltb, lt-ltb, below_more}
 use mathlib.Core.Bool.{false≢true}
 use Rattle.base.proofs.TestLaws.{Searched}
 use Rattle.base.proofs.BoolLaws.{order, left, passes-not}
-use Rattle.rules.specs.File.{blocks_in, cells_of, records_in, head_right, cell_block_right}
+use Rattle.rules.specs.File.{blocks_in, cells_of, records_in, head_right, header_right, cell_block_right, summed, zeros}
 use Rattle.rules.specs.Refusals.{block_wrong}
 use Rattle.rules.proofs.Shape.{whole-blocks}
-use Rattle.blocks.specs.Reading.{head_of, head_is, head_laid, head_right_at, RightTo}
+use Rattle.blocks.specs.Reading.{head_of, head_is, head_laid, head_right_at, RightTo, signature_right}
+use Rattle.blocks.proofs.Lengths.{has-header, records-bounded}
 use Rattle.blocks.specs.Places.{Headed}
 use Rattle.blocks.specs.declared.Head.{Head}
 
@@ -72,3 +73,15 @@ pub headed-first : (file : List ℕ) (heads : ℕ) → Headed file heads → ltb
 headed-first file heads h =
     let positive = (whole-blocks file h.right).1 in
     next-right file (blocks_in file) heads 0 positive h.heads-are (λ j l. absurd (omega arith)) ∙ header-head file
+
+-- the header is its head, its signature and zeros
+grouped : (a b c d e f g h : Bool) → (a && b && c && d && e && f && g && h) ≡ (a && (b && c && d && e && f && g) && h)
+grouped true b c d e f g h = refl
+grouped false b c d e f g h = refl
+
+pub header-parts : (file : List ℕ) → header_right file ≡ (head_right file 0 1 0 && signature_right file && zeros file 16 summed)
+unfolding header_right signature_right
+header-parts file = grouped (head_right file 0 1 0) _ _ _ _ _ _ _
+
+-- what a block's layout and the header go by
+pub ruleset laid = (headed-first, header-parts, cell-head, records-bounded, has-header)

@@ -14,6 +14,14 @@ pub right-length : (file : List ℕ) → wrong_length file ≡ false → RightLe
 unfolding blocks_in
 right-length file h = let b = whole-blocks file h in record { has-header = omega arith; whole = omega arith; blocks-bounded = omega arith }
 
+pub has-header : (file : List ℕ) → wrong_length file ≡ false → block_size ≤ length file
+has-header file h = (right-length file h).has-header
+
+pub few-blocks : (file : List ℕ) → wrong_length file ≡ false → length file / block_size ≤ most_blocks
+few-blocks file h = (right-length file h).blocks-bounded
+
+pub ruleset lengths = (has-header, few-blocks)
+
 -- "numbers little-endian", two bytes
 pub number-bounded : (file : List ℕ) (i : ℕ) → ((j : ℕ) → get_or file j 0 < byte_values) → number_at file i ≤ most_number
 unfolding number_at byte_at

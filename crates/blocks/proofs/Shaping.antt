@@ -1,24 +1,21 @@
 -- The order of the checks of a file's shape, each row as its first check and then the rest, and what an accepted one leaves for the next.
-use Rattle.std.proofs.Common.{Result, Ok, Err, ◌≡◌, ℕ, ◌<◌, Bool, true, false, not, ◌&&◌, List, [], ◌∷◌, ◌++◌, ◌∙◌, refl, arith, ltb-true}
+use Rattle.std.proofs.Common.{Result, Ok, Err, ◌≡◌, ℕ, ◌<◌, false, not, List, [], ◌∷◌, ◌++◌, sym, ◌∙◌, arith, ltb-true}
 use Rattle.std.specs.Result.{IsErrAnd}
-use Rattle.base.proofs.BoolLaws.{passes-not}
-use Rattle.rules.specs.File.{blocks_in, head_right, header_right}
+use Rattle.base.proofs.BoolLaws.{left, passes-not}
+use Rattle.rules.specs.File.{summed, blocks_in, zeros, head_right, header_right}
 use Rattle.rules.specs.Refusals.{Check, judge, once, each, wrong_length, outside, block_wrong, shape_checks, Accepted}
 use Rattle.rules.specs.declared.Refusal.{Refusal}
+use Rattle.rules.proofs.CheckLaws.{once-accepted}
 use Rattle.rules.proofs.Verdicts.{Then, then_append, all_pass}
-use Rattle.blocks.specs.Reading.{sums_check}
+use Rattle.blocks.specs.Reading.{signature_right, sums_check}
+use Rattle.blocks.proofs.Lengths.{lengths}
 use Rattle.blocks.specs.Places.{Headed}
-use Rattle.blocks.proofs.Heading.{headed-first}
+use Rattle.blocks.proofs.Heading.{headed-first, header-parts}
 
 -- what a `?` gives on where it stops: the refusal that it met
 pub given_on : {T : Type 0} (v : Result T Refusal) {r : Refusal} → IsErrAnd v (λ s. s ≡ r) → v ≡ Err r
 given_on (Ok x) e = absurd e
 given_on (Err s) e = rw e
-
--- the first test of a header's chain
-first_of : (a b c d e f g h : Bool) → (a && b && c && d && e && f && g && h) ≡ true → a ≡ true
-first_of true b c d e f g h q = refl
-first_of false b c d e f g h q = q
 
 module _ (file : List ℕ) where
   abbrev length-check : List Check
@@ -45,7 +42,12 @@ module _ (file : List ℕ) where
 
   -- a header that is accepted has its head
   pub heads-positive : (heads : ℕ) → Headed file heads → judge header-checks ≡ Accepted → 0 < heads
-  unfolding header_right
   heads-positive heads h e =
       let right = passes-not (header_right file) ((all_pass header-checks e).0 0 (omega arith)) in
-      ltb-true 0 heads (headed-first file heads h ∙ first_of (head_right file 0 1 0) _ _ _ _ _ _ _ right)
+      ltb-true 0 heads (headed-first file heads h ∙ left (head_right file 0 1 0) (signature_right file) (left _ (zeros file 16 summed) (sym (header-parts file) ∙ right)))
+
+  pub accepted-length : Accepted ≡ judge length-check → wrong_length file ≡ false
+  accepted-length e = once-accepted 1 _ (sym e)
+
+-- what refusal 1 leaves where it has passed
+pub ruleset passing = (lengths, accepted-length)

@@ -132,7 +132,7 @@ fn signature_right(file: &[u8]) -> bool
 }
 
 // Block 0 is a header as the layout has it, whatever its C, N and SSOL.
-#[tactic(auto, unfolding(rules::specs::File::header_right, crate::specs::Reading::signature_right))]
+#[tactic(auto, using(crate::proofs::Heading::laid))]
 fn header_right(file: &[u8], heads: usize) -> bool
     requires { Headed file.now heads }
     ensures { result ≡ header_right file.now }
@@ -176,6 +176,7 @@ fn head_laid(head: Head, cells: usize, i: usize) -> bool
 
 // All blocks: how many, from block 0 on, have the head that the layout gives them, for checks 3 and 5; or refusal 2 of the lowest
 // block whose sums are wrong.
+#[tactic(auto, using(crate::proofs::Lengths::lengths))]
 fn read_blocks(file: &[u8]) -> Result<usize, Refusal>
     requires { wrong_length file.now ≡ false }
     ensures { BlocksOf file.now result }
@@ -192,6 +193,7 @@ fn read_blocks(file: &[u8]) -> Result<usize, Refusal>
 }
 
 // Cell block i is as the layout has it, outside its records: its head is, and the rest is zero.
+#[tactic(auto, using(crate::proofs::Heading::laid), unfolding(rules::specs::File::cell_block_right, rules::specs::File::block_at))]
 fn cell_block_right(file: &[u8], cells: usize, i: usize, headed: bool) -> bool
     requires { CellBlock file.now cells i headed }
     ensures { result ≡ cell_block_right file.now i }
@@ -259,6 +261,7 @@ fn length_verdict(file: &[u8]) -> Verdict
 }
 
 // Refusals 3 and 4, the header.
+#[tactic(auto, using(crate::proofs::Lengths::lengths))]
 fn header_verdict(file: &[u8], heads: usize) -> Verdict
     requires { Headed file.now heads }
     ensures { result ≡ judge (once 3 (not (header_right file.now)) ∷ once 4 (outside file.now) ∷ []) }
@@ -269,6 +272,7 @@ fn header_verdict(file: &[u8], heads: usize) -> Verdict
 
 // Refusal 5, the number of blocks and the layout of the cell blocks: the lowest block. Not `rules::each`: whether a block's head is right is
 // known only where all lower ones are.
+#[tactic(auto, using(crate::proofs::Lengths::lengths))]
 fn layout_verdict(file: &[u8], cells: usize, heads: usize) -> Verdict
     requires { Layout file.now cells heads }
     ensures { result ≡ judge (each 5 (blocks_in file.now) (block_wrong file.now) ∷ []) }
@@ -283,6 +287,7 @@ fn layout_verdict(file: &[u8], cells: usize, heads: usize) -> Verdict
 
 // Refusals 1 to 5, the file's shape, in their order. Each block is read once, by check 2; what it holds of its head goes on to
 // checks 3 and 5.
+#[tactic(auto, using(crate::proofs::Shaping::passing))]
 pub fn shape_verdict(file: &[u8]) -> Verdict
     ensures { result ≡ judge (shape_checks file.now) }
 {

@@ -5,7 +5,6 @@ use Rattle.base.proofs.TestLaws.{search-next}
 use Rattle.rules.specs.File.{blocks_in}
 use Rattle.rules.proofs.CheckLaws.{found, ended}
 use Rattle.blocks.proofs.Heading.{next-right, lower-right}
-use Rattle.blocks.proofs.Lengths.{right-length}
 use Rattle.blocks.proofs.layout_verdict.Goals as goal
 
 pub block_wrong-requires : goal.block_wrong-requires
@@ -14,9 +13,6 @@ block_wrong-requires c =
     let heads = c.requires.headed.heads-are in
     let l : c.loop-i.i < blocks_in c.args.file.now = omega arith in
     record { whole = omega arith; told = c.requires.told; head = next-right _ _ _ _ l heads (lower-right _ _ _ _ heads c.requires.header c.loop-i.invariant) }
-
-pub refuse-requires : goal.refuse-requires
-refuse-requires c = let l = right-length _ c.requires.headed.right in omega arith
 
 pub returns-then-block_wrong : goal.returns-then-block_wrong
 unfolding blocks_in

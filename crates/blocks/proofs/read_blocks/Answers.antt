@@ -5,17 +5,10 @@ use Rattle.rules.specs.File.{blocks_in, cells_of}
 use Rattle.rules.proofs.CheckLaws.{found, ended}
 use Rattle.blocks.specs.Reading.{RightTo}
 use Rattle.blocks.proofs.Heading.{head-right, right-one-more, right-no-more}
-use Rattle.blocks.proofs.Lengths.{right-length}
 use Rattle.blocks.proofs.ReadingLaws.{held, refused}
 use Rattle.blocks.proofs.Shaping.{given_on}
 use Rattle.blocks.proofs.read_blocks.Goals as goal
 use Rattle.blocks.proofs.read_blocks.Goals.{Joined-heads-i, then-heads-i+then-head_laid, else-heads-i, else-heads-i-via-then-heads-i+else-head_laid, else-heads-i-via-else-heads-i}
-
-pub number-cells-requires : goal.number-cells-requires
-number-cells-requires c = let l = right-length _ c.requires in omega arith
-
-pub read-requires : goal.read-requires
-read-requires c = let l = right-length _ c.requires in record { whole = omega arith; place-bounded = omega arith }
 
 pub returns-in_err-head : goal.returns-in_err-head
 unfolding blocks_in

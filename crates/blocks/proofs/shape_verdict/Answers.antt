@@ -1,22 +1,17 @@
 -- The checks in a row: a refusal stops it, an acceptance goes on, and what the blocks hold of their heads goes along.
 use Rattle.std.proofs.Common.{sym, refl, ◌∙◌}
-use Rattle.rules.proofs.CheckLaws.{once-accepted}
 use Rattle.rules.proofs.Verdicts.{stopped, passed}
 use Rattle.blocks.specs.Places.{Headed}
-use Rattle.blocks.proofs.Lengths.{right-length}
-use Rattle.blocks.proofs.Shaping.{given_on, row-length, row-sums, row-header, heads-positive}
+use Rattle.blocks.proofs.Shaping.{given_on, accepted-length, row-length, row-sums, row-header, heads-positive}
 use Rattle.blocks.proofs.shape_verdict.Goals as goal
 use Rattle.blocks.proofs.shape_verdict.Goals.{In_ok-heads}
 
 -- refusals 1 and 2 have passed, with the heads
 headed : (c : In_ok-heads) → Headed c.args.file.now c.in_ok-heads.heads
-headed c = record { right = once-accepted 1 _ (sym c.in_ok-length_verdict.ensures); heads-are = c.in_ok-heads.ensures.1 }
+headed c = record { right = accepted-length _ c.in_ok-length_verdict.ensures; heads-are = c.in_ok-heads.ensures.1 }
 
 pub returns-in_err-length_verdict : goal.returns-in_err-length_verdict
 returns-in_err-length_verdict c = given_on _ c.from_residual.ensures.1 ∙ stopped (row-length _) c.in_err-length_verdict.ensures refl
-
-pub read_blocks-requires : goal.read_blocks-requires
-read_blocks-requires c = once-accepted 1 _ (sym c.in_ok-length_verdict.ensures)
 
 pub returns-in_err-heads : goal.returns-in_err-heads
 returns-in_err-heads c =
@@ -32,9 +27,6 @@ returns-in_err-header_verdict c =
     ∙ passed (row-length _) c.in_ok-length_verdict.ensures refl
     (passed (row-sums _) (sym c.in_ok-heads.ensures.0) refl
     (stopped (row-header _) c.in_err-header_verdict.ensures refl))
-
-pub read_sizes-requires : goal.read_sizes-requires
-read_sizes-requires c = (right-length _ (once-accepted 1 _ (sym c.in_ok-length_verdict.ensures))).has-header
 
 pub layout_verdict-requires : goal.layout_verdict-requires
 layout_verdict-requires c =
