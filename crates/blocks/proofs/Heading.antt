@@ -83,5 +83,5 @@ pub header-parts : (file : List ℕ) → header_right file ≡ (head_right file 
 unfolding header_right signature_right
 header-parts file = grouped (head_right file 0 1 0) _ _ _ _ _ _ _
 
--- what a block's layout and the header go by
+-- what the search takes for a cell block's layout and the header's
 pub ruleset laid = (headed-first, header-parts, cell-head, records-bounded, has-header)

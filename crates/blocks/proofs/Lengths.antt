@@ -20,6 +20,7 @@ has-header file h = (right-length file h).has-header
 pub few-blocks : (file : List ℕ) → wrong_length file ≡ false → length file / block_size ≤ most_blocks
 few-blocks file h = (right-length file h).blocks-bounded
 
+-- what the search takes where refusal 1 has passed
 pub ruleset lengths = (has-header, few-blocks)
 
 -- "numbers little-endian", two bytes

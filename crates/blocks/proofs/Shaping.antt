@@ -1,21 +1,16 @@
 -- The order of the checks of a file's shape, each row as its first check and then the rest, and what an accepted one leaves for the next.
-use Rattle.std.proofs.Common.{Result, Ok, Err, ◌≡◌, ℕ, ◌<◌, false, not, List, [], ◌∷◌, ◌++◌, sym, ◌∙◌, arith, ltb-true}
-use Rattle.std.specs.Result.{IsErrAnd}
+use Rattle.std.proofs.Common.{◌≡◌, ℕ, ◌<◌, false, not, List, [], ◌∷◌, ◌++◌, sym, ◌∙◌, arith, ltb-true}
 use Rattle.base.proofs.BoolLaws.{left, passes-not}
 use Rattle.rules.specs.File.{summed, blocks_in, zeros, head_right, header_right}
 use Rattle.rules.specs.Refusals.{Check, judge, once, each, wrong_length, outside, block_wrong, shape_checks, Accepted}
-use Rattle.rules.specs.declared.Refusal.{Refusal}
-use Rattle.rules.proofs.CheckLaws.{once-accepted}
-use Rattle.rules.proofs.Verdicts.{Then, then_append, all_pass}
+use Rattle.rules.proofs.CheckLaws.{once-accepted, found, ended}
+use Rattle.base.proofs.TestLaws.{search-next}
+use Rattle.rules.proofs.Verdicts.{stopped, passed, Then, then_append, all_pass}
 use Rattle.blocks.specs.Reading.{signature_right, sums_check}
+use Rattle.blocks.proofs.ReadingLaws.{held, refused}
 use Rattle.blocks.proofs.Lengths.{lengths}
 use Rattle.blocks.specs.Places.{Headed}
-use Rattle.blocks.proofs.Heading.{headed-first, header-parts}
-
--- what a `?` gives on where it stops: the refusal that it met
-pub given_on : {T : Type 0} (v : Result T Refusal) {r : Refusal} → IsErrAnd v (λ s. s ≡ r) → v ≡ Err r
-given_on (Ok x) e = absurd e
-given_on (Err s) e = rw e
+use Rattle.blocks.proofs.Heading.{head-right, right-one-more, right-no-more, next-right, lower-right, headed-first, header-parts}
 
 module _ (file : List ℕ) where
   abbrev length-check : List Check
@@ -49,5 +44,11 @@ module _ (file : List ℕ) where
   pub accepted-length : Accepted ≡ judge length-check → wrong_length file ≡ false
   accepted-length e = once-accepted 1 _ (sym e)
 
--- what refusal 1 leaves where it has passed
-pub ruleset passing = (lengths, accepted-length)
+-- what the search takes: to read all blocks, for the header's row, for the layout's check, for all five checks in their row
+pub ruleset reading = (lengths, held, refused, found, ended, search-next, head-right, right-one-more, right-no-more)
+
+pub ruleset heading = (lengths, row-three, stopped, passed)
+
+pub ruleset laying = (lengths, ended, search-next)
+
+pub ruleset shaping = (lengths, accepted-length, row-length, row-sums, row-header, stopped, passed)
