@@ -1,24 +1,17 @@
 -- What refusal 1 leaves of a file's length, and how large a number of two bytes is at most.
-use Rattle.std.proofs.Common.{◌≡◌, ℕ, ◌+◌, ◌*◌, ◌/◌, ◌<◌, ◌≤◌, false, List, length, get_or, arith}
+use Rattle.std.proofs.Common.{◌≡◌, ℕ, ◌+◌, ◌/◌, ◌<◌, ◌≤◌, false, List, length, get_or, arith}
 use Rattle.rules.specs.File.{block_size, block_records, blocks_in, byte_values, most_number, byte_at, number_at, cells_of, records_in}
 use Rattle.rules.specs.Refusals.{most_blocks, wrong_length}
 use Rattle.rules.proofs.Shape.{whole-blocks}
 
--- the file has at least one block, and whole blocks, and at most 14
-pub record RightLength (file : List ℕ) : Type 0 where
-  pub has-header : block_size ≤ length file
-  pub whole : block_size * (length file / block_size) ≡ length file
-  pub blocks-bounded : length file / block_size ≤ most_blocks
-
-pub right-length : (file : List ℕ) → wrong_length file ≡ false → RightLength file
-unfolding blocks_in
-right-length file h = let b = whole-blocks file h in record { has-header = omega arith; whole = omega arith; blocks-bounded = omega arith }
-
+-- the file has at least one block, and at most 14
 pub has-header : (file : List ℕ) → wrong_length file ≡ false → block_size ≤ length file
-has-header file h = (right-length file h).has-header
+unfolding blocks_in
+has-header file h = let b = whole-blocks file h in omega arith
 
 pub few-blocks : (file : List ℕ) → wrong_length file ≡ false → length file / block_size ≤ most_blocks
-few-blocks file h = (right-length file h).blocks-bounded
+unfolding blocks_in
+few-blocks file h = (whole-blocks file h).2
 
 -- what the search takes where refusal 1 has passed
 pub ruleset lengths = (has-header, few-blocks)

@@ -10,7 +10,7 @@ use Rattle.blocks.specs.Reading.{signature_right, sums_check}
 use Rattle.blocks.proofs.ReadingLaws.{held, refused}
 use Rattle.blocks.proofs.Lengths.{lengths}
 use Rattle.blocks.specs.Places.{Headed}
-use Rattle.blocks.proofs.Heading.{head-right, right-one-more, right-no-more, next-right, lower-right, headed-first, header-parts}
+use Rattle.blocks.proofs.Heading.{head-right, right-one-more, right-no-more, headed-first, header-parts}
 
 module _ (file : List ℕ) where
   abbrev length-check : List Check

@@ -77,7 +77,7 @@ fn sums_right(file: &[u8], i: usize) -> bool
 }
 
 // The bytes from `from` up to `to`, and not `to` itself, are zero: all of them together have no digit. Without a way out of the loop the
-// compiler takes many bytes at a time.
+// compiler takes many bytes at a time; by index, since no slice begins past its end, and `from` may be past `to`.
 #[tactic(auto, using(crate::proofs::ZeroLaws::zeroing), unfolding(rules::specs::File::byte_at))]
 fn zeros(file: &[u8], from: usize, to: usize) -> bool
     requires { to ≤ length file.now }
@@ -116,12 +116,14 @@ fn read(file: &[u8], i: usize) -> Result<Head, Refusal>
     Ok(read_head(file, i))
 }
 
-// A head of this number, this kind and this count.
+// A head of this number, this kind and this count. Not a derived `==`: what is asked for need not fit the fields of a head.
 #[tactic(auto, unfolding(crate::specs::Reading::head_is))]
 fn head_is(head: Head, number: usize, kind: usize, records: usize) -> bool
     ensures { result ≡ head_is head number kind records }
 {
-    head.number as usize == number && head.kind as usize == kind && head.records as usize == records
+    usize::from(head.number) == number
+        && usize::from(head.kind) == kind
+        && usize::from(head.records) == records
 }
 
 // Bytes 4 to 9 of the header: "BSIN", version 1, and a zero.
