@@ -1,12 +1,13 @@
 -- The heads of the blocks, from block 0 on: how many are right so far, and what that says of the header's and of each cell block's.
-use Rattle.std.proofs.Common.{◌≡◌, ℕ, zero, suc, ◌+◌, ◌<◌, ◌≤◌, Bool, true, false, ltb, ◌⊎◌, List, sym, refl, ◌∙◌, subst, ⊎_elim, arith, le-ltb, lt-ltb}
+use Rattle.std.proofs.Common.{◌≡◌, ℕ, zero, suc, ◌+◌, ◌<◌, ◌≤◌, Bool, true, false, ◌&&◌, ltb, ◌⊎◌, List, sym, refl, ◌∙◌, ⊎_elim, arith, le-ltb, lt-ltb, below_more}
 use mathlib.Core.Bool.{false≢true}
 use Rattle.base.proofs.TestLaws.{Searched}
-use Rattle.base.proofs.BoolLaws.{below_suc, order, left, passes-not}
-use Rattle.rules.specs.File.{blocks_in, cells_of, records_in, head_right, cell_block_right}
+use Rattle.base.proofs.BoolLaws.{order, left, passes-not}
+use Rattle.rules.specs.File.{blocks_in, cells_of, records_in, head_right, header_right, cell_block_right, summed, zeros}
 use Rattle.rules.specs.Refusals.{block_wrong}
 use Rattle.rules.proofs.Shape.{whole-blocks}
-use Rattle.blocks.specs.Reading.{head_of, head_is, head_laid, head_right_at, RightTo}
+use Rattle.blocks.specs.Reading.{head_of, head_is, head_laid, head_right_at, RightTo, signature_right}
+use Rattle.blocks.proofs.Lengths.{has-header, records-bounded}
 use Rattle.blocks.specs.Places.{Headed}
 use Rattle.blocks.specs.declared.Head.{Head}
 
@@ -21,26 +22,12 @@ cell-head file zero l = absurd (omega arith)
 cell-head file (suc i) l = refl
 
 module _ (file : List ℕ) where
-  pub right-none : RightTo file 0 0
-  right-none = record { inside = omega arith; lower = λ j l. absurd (omega arith); stops = λ l. absurd (omega arith) }
-
   -- one block more: it goes on from those before it, or it does not
   pub right-one-more : (i heads : ℕ) → RightTo file i heads → heads ≡ i → head_right_at file i ≡ true → RightTo file (i + 1) (heads + 1)
-  right-one-more i heads s e h =
-      record {
-        inside = omega arith;
-        lower = λ j l. ⊎_elim (λ (x : j ≡ i). rw x h) (λ (x : j < i). s.lower j (omega arith)) (below_suc {i = j} {n = i} (omega arith));
-        stops = λ l. absurd (omega arith);
-      }
+  right-one-more i heads s e h = record { inside = omega arith; lower = below_more _ _ s.lower (rw e h); stops = λ l. absurd (omega arith) }
 
   pub right-no-more : (i heads : ℕ) → RightTo file i heads → (heads ≡ i → head_right_at file i ≡ false) → RightTo file (i + 1) heads
-  right-no-more i heads s h = record { inside = (let l = s.inside in omega arith); lower = s.lower; stops = λ l. stops (order heads i) }
-    where
-      stops : (heads < i) ⊎ (i ≤ heads) → head_right_at file heads ≡ false
-      stops = ⊎_elim (λ (x : heads < i). s.stops x) (λ (x : i ≤ heads). let l = s.inside in let is : heads ≡ i = omega arith in rw is (h is))
-
-  pub right-all : (i n heads : ℕ) → RightTo file i heads → i ≡ n → RightTo file n heads
-  right-all i n heads s e = subst (λ (k : ℕ). RightTo file k heads) e s
+  right-no-more i heads s h = record { inside = (let l = s.inside in omega arith); lower = s.lower; stops = λ l. grind (arith, s.stops, s.inside, h) }
 
   -- the test of the head that was read of block i is that of the block
   pub head-right :
@@ -53,12 +40,7 @@ module _ (file : List ℕ) where
   unfolding head_right_at
   head-right i h c l e = rw (← h, ← c, ← l) e
 
-  -- block 0 is among them exactly where its head is right
-  pub first-right : (n right : ℕ) → 1 ≤ n → RightTo file n right → ltb 0 right ≡ head_right_at file 0
-  first-right n zero l s = le-ltb 0 0 (omega arith) ∙ sym (s.stops l)
-  first-right n (suc right) l s = lt-ltb 0 (suc right) (omega arith) ∙ sym (s.lower 0 (omega arith))
-
-  -- and so is block i, where every lower one is
+  -- block i is among them exactly where its head is right, if every lower one is
   pub next-right : (n right i : ℕ) → i < n → RightTo file n right → ((j : ℕ) → j < i → head_right_at file j ≡ true) → ltb i right ≡ head_right_at file i
   next-right n right i l s lower =
       ⊎_elim
@@ -90,4 +72,16 @@ module _ (file : List ℕ) where
 pub headed-first : (file : List ℕ) (heads : ℕ) → Headed file heads → ltb 0 heads ≡ head_right file 0 1 0
 headed-first file heads h =
     let positive = (whole-blocks file h.right).1 in
-    first-right file (blocks_in file) heads (omega arith) h.heads-are ∙ header-head file
+    next-right file (blocks_in file) heads 0 positive h.heads-are (λ j l. absurd (omega arith)) ∙ header-head file
+
+-- the header is its head, its signature and zeros
+grouped : (a b c d e f g h : Bool) → (a && b && c && d && e && f && g && h) ≡ (a && (b && c && d && e && f && g) && h)
+grouped true b c d e f g h = refl
+grouped false b c d e f g h = refl
+
+pub header-parts : (file : List ℕ) → header_right file ≡ (head_right file 0 1 0 && signature_right file && zeros file 16 summed)
+unfolding header_right signature_right
+header-parts file = grouped (head_right file 0 1 0) _ _ _ _ _ _ _
+
+-- what the search takes for a cell block's layout and the header's
+pub ruleset laid = (headed-first, header-parts, cell-head, records-bounded, has-header)

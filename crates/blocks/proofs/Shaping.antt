@@ -1,19 +1,25 @@
 -- The order of the checks of a file's shape, each row as its first check and then the rest, and what an accepted one leaves for the next.
-use Rattle.std.proofs.Common.{Result, Ok, Err, ◌≡◌, ℕ, ◌<◌, Bool, true, false, not, ◌&&◌, List, [], ◌∷◌, ◌++◌, ◌∙◌, refl, arith, ltb-true}
-use Rattle.std.specs.Result.{IsErrAnd}
-use Rattle.base.proofs.BoolLaws.{passes-not}
-use Rattle.rules.specs.File.{blocks_in, head_right, header_right}
+use Rattle.std.proofs.Common.{◌≡◌, ℕ, ◌<◌, false, not, List, [], ◌∷◌, ◌++◌, sym, ◌∙◌, arith, ltb-true}
+use Rattle.base.proofs.BoolLaws.{left, passes-not}
+use Rattle.rules.specs.File.{summed, blocks_in, zeros, head_right, header_right}
 use Rattle.rules.specs.Refusals.{Check, judge, once, each, wrong_length, outside, block_wrong, shape_checks, Accepted}
-use Rattle.rules.specs.declared.Refusal.{Refusal}
-use Rattle.rules.proofs.Verdicts.{Then, then_append, all_pass}
-use Rattle.blocks.specs.Reading.{sums_check}
+use Rattle.rules.proofs.CheckLaws.{once-accepted, found, ended}
+use Rattle.base.proofs.TestLaws.{search-next}
+use Rattle.rules.proofs.Verdicts.{stopped, passed, Then, then_append, all_pass}
+use Rattle.blocks.specs.Reading.{signature_right, sums_check}
+use Rattle.blocks.proofs.ReadingLaws.{held, refused}
+use Rattle.blocks.proofs.Lengths.{lengths}
 use Rattle.blocks.specs.Places.{Headed}
+<<<<<<< HEAD
 use Rattle.blocks.proofs.Heading.{headed-first}
 
 -- the first test of a header's chain
 first_of : (a b c d e f g h : Bool) → (a && b && c && d && e && f && g && h) ≡ true → a ≡ true
 first_of true b c d e f g h q = refl
 first_of false b c d e f g h q = q
+=======
+use Rattle.blocks.proofs.Heading.{head-right, right-one-more, right-no-more, headed-first, header-parts}
+>>>>>>> 1c2d273f6fb91ef81e84acc28c724271bcb57dde
 
 module _ (file : List ℕ) where
   abbrev length-check : List Check
@@ -40,7 +46,18 @@ module _ (file : List ℕ) where
 
   -- a header that is accepted has its head
   pub heads-positive : (heads : ℕ) → Headed file heads → judge header-checks ≡ Accepted → 0 < heads
-  unfolding header_right
   heads-positive heads h e =
       let right = passes-not (header_right file) ((all_pass header-checks e).0 0 (omega arith)) in
-      ltb-true 0 heads (headed-first file heads h ∙ first_of (head_right file 0 1 0) _ _ _ _ _ _ _ right)
+      ltb-true 0 heads (headed-first file heads h ∙ left (head_right file 0 1 0) (signature_right file) (left _ (zeros file 16 summed) (sym (header-parts file) ∙ right)))
+
+  pub accepted-length : Accepted ≡ judge length-check → wrong_length file ≡ false
+  accepted-length e = once-accepted 1 _ (sym e)
+
+-- what the search takes: to read all blocks, for the header's row, for the layout's check, for all five checks in their row
+pub ruleset reading = (lengths, held, refused, found, ended, search-next, head-right, right-one-more, right-no-more)
+
+pub ruleset heading = (lengths, row-three, stopped, passed)
+
+pub ruleset laying = (lengths, ended, search-next)
+
+pub ruleset shaping = (lengths, accepted-length, row-length, row-sums, row-header, stopped, passed)

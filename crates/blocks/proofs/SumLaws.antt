@@ -16,3 +16,6 @@ sums_next bytes i a b h ea eb = rw (eb, ea, add-one, drop-cons bytes i 0)
 pub sums-end : (s : Sums) (bytes : List ℕ) (i : ℕ) → i ≡ length bytes → sums_from s (drop i bytes) ≡ s
 unfolding sums_from
 sums-end s bytes i e = rw (e, drop-length)
+
+-- what the search takes for a sum over the bytes
+pub ruleset adding = (sums_next, sums-end)

@@ -29,3 +29,6 @@ module _ (file : List ℕ) (from : ℕ) where
   pub zeros-end : (at to : ℕ) → at - from ≡ to - from → zeros file from at ≡ zeros file from to
   unfolding zeros
   zeros-end at to e = rw e
+
+-- what the search takes for the zeros
+pub ruleset zeroing = (zeros-none, zeros-next, zeros-end)

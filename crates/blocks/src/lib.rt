@@ -51,6 +51,7 @@ fn number(file: &[u8], at: usize) -> usize
 }
 
 // The two sums of `bytes`, both wrapping at 65,536.
+#[tactic(auto, using(crate::proofs::SumLaws::adding), unfolding(rules::specs::File::sums_of))]
 fn sums(bytes: &[u8]) -> Sums
     ensures { result ≡ sums_of bytes.now }
 {
@@ -76,7 +77,8 @@ fn sums_right(file: &[u8], i: usize) -> bool
 }
 
 // The bytes from `from` up to `to`, and not `to` itself, are zero: all of them together have no digit. Without a way out of the loop the
-// compiler takes many bytes at a time.
+// compiler takes many bytes at a time; by index, since no slice begins past its end, and `from` may be past `to`.
+#[tactic(auto, using(crate::proofs::ZeroLaws::zeroing), unfolding(rules::specs::File::byte_at))]
 fn zeros(file: &[u8], from: usize, to: usize) -> bool
     requires { to ≤ length file.now }
     ensures { result ≡ zeros file.now from to }
@@ -114,12 +116,14 @@ fn read(file: &[u8], i: usize) -> Result<Head, Refusal>
     Ok(read_head(file, i))
 }
 
-// A head of this number, this kind and this count.
+// A head of this number, this kind and this count. Not a derived `==`: what is asked for need not fit the fields of a head.
 #[tactic(auto, unfolding(crate::specs::Reading::head_is))]
 fn head_is(head: Head, number: usize, kind: usize, records: usize) -> bool
     ensures { result ≡ head_is head number kind records }
 {
-    head.number as usize == number && head.kind as usize == kind && head.records as usize == records
+    usize::from(head.number) == number
+        && usize::from(head.kind) == kind
+        && usize::from(head.records) == records
 }
 
 // Bytes 4 to 9 of the header: "BSIN", version 1, and a zero.
@@ -132,7 +136,7 @@ fn signature_right(file: &[u8]) -> bool
 }
 
 // Block 0 is a header as the layout has it, whatever its C, N and SSOL.
-#[tactic(auto, unfolding(rules::specs::File::header_right, crate::specs::Reading::signature_right))]
+#[tactic(auto, using(crate::proofs::Heading::laid))]
 fn header_right(file: &[u8], heads: usize) -> bool
     requires { Headed file.now heads }
     ensures { result ≡ header_right file.now }
@@ -176,6 +180,7 @@ fn head_laid(head: Head, cells: usize, i: usize) -> bool
 
 // All blocks: how many, from block 0 on, have the head that the layout gives them, for checks 3 and 5; or refusal 2 of the lowest
 // block whose sums are wrong.
+#[tactic(auto, using(crate::proofs::Shaping::reading), unfolding(rules::specs::File::blocks_in, rules::specs::File::cells_of))]
 fn read_blocks(file: &[u8]) -> Result<usize, Refusal>
     requires { wrong_length file.now ≡ false }
     ensures { BlocksOf file.now result }
@@ -192,6 +197,7 @@ fn read_blocks(file: &[u8]) -> Result<usize, Refusal>
 }
 
 // Cell block i is as the layout has it, outside its records: its head is, and the rest is zero.
+#[tactic(auto, using(crate::proofs::Heading::laid), unfolding(rules::specs::File::cell_block_right, rules::specs::File::block_at))]
 fn cell_block_right(file: &[u8], cells: usize, i: usize, headed: bool) -> bool
     requires { CellBlock file.now cells i headed }
     ensures { result ≡ cell_block_right file.now i }
@@ -259,6 +265,7 @@ fn length_verdict(file: &[u8]) -> Verdict
 }
 
 // Refusals 3 and 4, the header.
+#[tactic(auto, using(crate::proofs::Shaping::heading))]
 fn header_verdict(file: &[u8], heads: usize) -> Verdict
     requires { Headed file.now heads }
     ensures { result ≡ judge (once 3 (not (header_right file.now)) ∷ once 4 (outside file.now) ∷ []) }
@@ -269,6 +276,7 @@ fn header_verdict(file: &[u8], heads: usize) -> Verdict
 
 // Refusal 5, the number of blocks and the layout of the cell blocks: the lowest block. Not `rules::each`: whether a block's head is right is
 // known only where all lower ones are.
+#[tactic(auto, using(crate::proofs::Shaping::laying), unfolding(rules::specs::File::blocks_in))]
 fn layout_verdict(file: &[u8], cells: usize, heads: usize) -> Verdict
     requires { Layout file.now cells heads }
     ensures { result ≡ judge (each 5 (blocks_in file.now) (block_wrong file.now) ∷ []) }
@@ -283,6 +291,7 @@ fn layout_verdict(file: &[u8], cells: usize, heads: usize) -> Verdict
 
 // Refusals 1 to 5, the file's shape, in their order. Each block is read once, by check 2; what it holds of its head goes on to
 // checks 3 and 5.
+#[tactic(auto, using(crate::proofs::Shaping::shaping))]
 pub fn shape_verdict(file: &[u8]) -> Verdict
     ensures { result ≡ judge (shape_checks file.now) }
 {

