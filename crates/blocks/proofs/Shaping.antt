@@ -10,16 +10,7 @@ use Rattle.blocks.specs.Reading.{signature_right, sums_check}
 use Rattle.blocks.proofs.ReadingLaws.{held, refused}
 use Rattle.blocks.proofs.Lengths.{lengths}
 use Rattle.blocks.specs.Places.{Headed}
-<<<<<<< HEAD
-use Rattle.blocks.proofs.Heading.{headed-first}
-
--- the first test of a header's chain
-first_of : (a b c d e f g h : Bool) → (a && b && c && d && e && f && g && h) ≡ true → a ≡ true
-first_of true b c d e f g h q = refl
-first_of false b c d e f g h q = q
-=======
 use Rattle.blocks.proofs.Heading.{head-right, right-one-more, right-no-more, headed-first, header-parts}
->>>>>>> 1c2d273f6fb91ef81e84acc28c724271bcb57dde
 
 module _ (file : List ℕ) where
   abbrev length-check : List Check

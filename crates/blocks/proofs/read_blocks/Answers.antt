@@ -1,22 +1,9 @@
-<<<<<<< HEAD
--- `blocks::read_blocks` meets its contract, by the search for the lowest block that reading refuses; on the way each head is counted.
-use Rattle.std.proofs.Common.{◌+◌, [], arith}
-use Rattle.base.proofs.TestLaws.{search-next}
-use Rattle.rules.specs.File.{blocks_in, cells_of}
-use Rattle.rules.proofs.Verdicts.{given_on}
-use Rattle.rules.proofs.CheckLaws.{found, ended}
-use Rattle.blocks.specs.Reading.{RightTo}
-use Rattle.blocks.proofs.Heading.{head-right, right-all, right-one-more, right-no-more}
-use Rattle.blocks.proofs.Lengths.{right-length}
-use Rattle.blocks.proofs.ReadingLaws.{held, refused}
-=======
 -- `blocks::read_blocks` meets its contract: the block that reading refuses is the lowest. The rest is the search's.
 use Rattle.std.proofs.Common.{[], arith}
 use Rattle.std.proofs.lemmas.Result.{err_from_is_err_and}
 use Rattle.rules.specs.File.{blocks_in}
 use Rattle.rules.proofs.CheckLaws.{found}
 use Rattle.blocks.proofs.ReadingLaws.{refused}
->>>>>>> 1c2d273f6fb91ef81e84acc28c724271bcb57dde
 use Rattle.blocks.proofs.read_blocks.Goals as goal
 
 pub returns-in_err-head : goal.returns-in_err-head
