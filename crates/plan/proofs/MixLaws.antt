@@ -3,7 +3,7 @@ use Prim.Native.Nat.{ℕ, zero, suc, ◌+◌, ◌*◌, ◌/◌, ◌≤◌, ◌<�
 use mathlib.Core.Path.{◌≡◌, refl, ◌∙◌, ap, ap₂, fun_ext}
 use mathlib.Core.Logic.{◌⊎◌, ⊎_elim}
 use mathlib.Core.Bool.{Bool, true, false, cond, xor, ◌&&◌, and-false}
-use native.Mathlib.Nat.{zero-mul, le_trans, div-le_self, mul-le-mul_left, mul-le-mul_right}
+use native.Mathlib.Nat.{zero-mul, le_trans, mul-le-mul_left, mul-le-mul_right}
 use native.Mathlib.Omega.{arith}
 use borrow.Author.Tests.{le-ltb}
 use lib.Dec.{ltb}
@@ -18,8 +18,8 @@ use Rattle.rules.specs.declared.Step.{Step}
 use Rattle.rules.specs.declared.Step.TheVariants.{Base, Inserted}
 use Rattle.words.specs.Sets.{net_words, unlike}
 use Rattle.plan.specs.declared.steps.Plan.{Plan}
-use Rattle.plan.specs.Plans.{bases_for, mix, most_patterns, Small, Within, start_of}
-use Rattle.plan.proofs.StepLaws.{size, size-bounded, extra-bounded, step-base, step-inserted}
+use Rattle.plan.specs.Plans.{bases_for, mix, Small, Within, start_of}
+use Rattle.plan.proofs.StepLaws.{size, extra-bounded, step-base, step-inserted}
 
 -- a net that differs and changes sides has its new value, another keeps its old
 mixed : (a b l : Bool) → xor a (xor a b && l) ≡ cond (xor a b && l) b a
@@ -54,9 +54,6 @@ pub changed-bounded : (p : Plan) (k : ℕ) → Small p → k ≤ 64 * net_words 
 changed-bounded p k s l = le_trans (mul-le-mul_right p.limit l) (mul-le-mul_left (64 * net_words) s.limit-bounded)
 
 -- the group of base vector i, which those inserted after it have too
-pub group-bounded : (p : Plan) (i : ℕ) → Small p → i < p.groups * p.wide → 1 + i / p.wide ≤ most_number * most_patterns
-group-bounded p i s l = let a = div-le_self i p.wide in omega (arith, size-bounded p s)
-
 pub group-is : (p : Plan) (i : ℕ) (step : Step) → (step ≡ Base i) ⊎ ((t : ℕ) × (step ≡ Inserted i t)) → 1 + i / p.wide ≡ (vector_of (bases_for p) step).group
 unfolding vector_of bases_for
 group-is p i step h = ⊎_elim (λ (e : step ≡ Base i). rw e (omega arith)) (λ (r : (t : ℕ) × (step ≡ Inserted i t)). rw r.1 (omega arith)) h

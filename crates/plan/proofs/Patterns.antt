@@ -1,7 +1,7 @@
 -- A pattern word by word: for 64 nets from a multiple of 64 on, each of the codes' six lowest digits is always the same word, and a higher
 -- one changes at most before the last net.
 use Prim.Native.Nat.{ℕ, zero, suc, ◌+◌, ◌*◌, ◌-◌, ◌/◌, ◌%◌, ◌^◌, ◌≤◌, ◌<◌}
-use mathlib.Core.Path.{◌≡◌, refl, sym, ◌∙◌, ap}
+use mathlib.Core.Path.{◌≡◌, refl, sym, ◌∙◌, ap, fun_ext}
 use mathlib.Core.Logic.{⊎_elim}
 use mathlib.Core.Bool.{Bool, true, false, cond, not, xor}
 use mathlib.Core.List.{List, [], ◌∷◌}
@@ -14,6 +14,8 @@ use Rattle.base.specs.Digits.{bit}
 use Rattle.base.proofs.BoolLaws.{alike, fails-not, order}
 use Rattle.base.proofs.TestLaws.{all-at}
 use Rattle.base.proofs.WordLaws.{bit-zero, bit-pow, bit_shifted, bit-ones}
+use Rattle.words.specs.Sets.{member, nothing}
+use Rattle.words.proofs.SetLaws.{Written}
 
 -- digits 0 to 5 of the codes 1 to 64
 abbrev low_words : List ℕ
@@ -93,3 +95,12 @@ below-from w n k =
     (λ (l : 64 * w + k < n). rw (lt-ltb k (n - 64 * w) (omega arith), lt-ltb (64 * w + k) n l))
     (λ (l : n ≤ 64 * w + k). rw (le-ltb k (n - 64 * w) (omega arith), le-ltb (64 * w + k) n l))
     (order (64 * w + k) n)
+
+-- words that were written as far as f goes, in words that held nothing, hold f
+pub written-far : {f : ℕ → Bool} {before after : List ℕ} {j : ℕ} → Written f before j after → member before ≡ nothing → ((i : ℕ) → 64 * j ≤ i → f i ≡ false) → member after ≡ f
+unfolding member
+written-far {f} {before} {after} {j} r none out =
+    fun_ext (λ i. ⊎_elim
+    (λ (l : i < 64 * j). r.done i l)
+    (λ (l : 64 * j ≤ i). ap (λ (w : ℕ). bit w (i % 64)) (r.rest (i / 64) (omega arith)) ∙ ap (λ (g : ℕ → Bool). g i) none ∙ sym (out i l))
+    (order i (64 * j)))

@@ -30,7 +30,11 @@ fn cell_bit(cell: Cell, p: Position, on: &[u64], nets: &[u64]) -> bool
         Cell::Control(value) => loops::has(on, p.0 as usize) == value,
         Cell::ThreeState(_, n) | Cell::TwoState(n) => loops::has(nets, n.0 as usize),
         // "In its turn .. loaded with the net's value, otherwise with 1".
-        Cell::OpenDrain(n) => !loops::has(on, p.0 as usize) || loops::has(nets, n.0 as usize),
+        Cell::OpenDrain(n) => {
+            let turn = loops::has(on, p.0 as usize);
+            let value = loops::has(nets, n.0 as usize);
+            !turn || value
+        }
     }
 }
 

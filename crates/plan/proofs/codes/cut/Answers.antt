@@ -1,6 +1,6 @@
 -- As many of the word's lowest digits are kept as there are nets from 64 * w on.
 use Prim.Native.Nat.{◌*◌, ◌-◌}
-use mathlib.Core.Path.{◌≡◌, ◌∙◌, ap}
+use mathlib.Core.Path.{◌∙◌, ap}
 use mathlib.Core.Bool.{Bool, ◌&&◌}
 use native.Mathlib.Omega.{arith}
 use Rattle.base.specs.Digits.{bit}
@@ -11,6 +11,5 @@ use Rattle.plan.proofs.codes.cut.Goals as goal
 pub returns : goal.returns
 returns c k h =
     let a = c.args in
-    let here : c.saturating_sub-here.result ≡ a.nets - 64 * a.w = c.saturating_sub-here.ensures in
-    rw (one_shifted 64 c.saturating_sub-here.result (omega arith), bit-and)
-    (ap (λ (d : Bool). d && bit a.word k) (bit-ones _ k ∙ rw here (below-from a.w a.nets k)))
+    rw (one_shifted 64 (a.nets - 64 * a.w) (omega arith), bit-and)
+    (ap (λ (d : Bool). d && bit a.word k) (bit-ones _ k ∙ below-from a.w a.nets k))

@@ -5,8 +5,9 @@ use mathlib.Core.Bool.{Bool, ◌&&◌}
 use native.Mathlib.Omega.{arith}
 use borrow.Author.Tests.{le-ltb}
 use lib.Dec.{ltb}
-use Rattle.words.specs.Sets.{up_to}
-use Rattle.words.proofs.SetLaws.{written-more, written_all}
+use Rattle.words.specs.Sets.{net_words, up_to}
+use Rattle.words.proofs.SetLaws.{written-more, member-zeros}
+use Rattle.plan.proofs.Patterns.{written-far}
 use Rattle.plan.proofs.codes.pattern.Goals as goal
 
 pub loop-w-preserved : goal.loop-w-preserved
@@ -17,4 +18,6 @@ loop-w-preserved c =
 
 pub returns : goal.returns
 unfolding up_to
-returns c = written_all _ _ c.loop-w.invariant (omega arith) (λ i h. rw (le-ltb i c.args.nets (omega arith)) refl)
+returns c =
+    let e = c.div_ceil-w-end.ensures in
+    written-far c.loop-w.invariant (member-zeros net_words) (λ i h. rw (le-ltb i c.args.nets (omega arith)) refl)

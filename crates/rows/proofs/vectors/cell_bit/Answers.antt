@@ -35,9 +35,9 @@ alike false false = refl
 pub has-requires-in-ThreeState : goal.has-requires-in-ThreeState
 has-requires-in-ThreeState c = rw (driven _ _ c.in-ThreeState.is) at c.requires.1
 
-pub has-requires-else-not-has : goal.has-requires-else-not-has
+pub has-value-requires : goal.has-value-requires
 unfolding out_net
-has-requires-else-not-has c = rw c.in-OpenDrain.is at c.requires.1
+has-value-requires c = rw c.in-OpenDrain.is at c.requires.1
 
 pub returns-in-Internal : goal.returns-in-Internal
 returns-in-Internal c = idle _ _ _ c.in-Internal.is
@@ -49,10 +49,10 @@ returns-in-Control c = rw (c.has.ensures, c.in-Control.is) (alike _ _)
 pub returns-in-ThreeState : goal.returns-in-ThreeState
 returns-in-ThreeState c = rw c.has-in-ThreeState.ensures (driven-bit _ _ c.in-ThreeState.is _ _)
 
-pub returns-then-not-has : goal.returns-then-not-has
+pub returns-then-not-turn : goal.returns-then-not-turn
 unfolding bit_of
-returns-then-not-has c = rw (c.in-OpenDrain.is, ← c.has-in-OpenDrain.ensures, c.if-not-has.true)
+returns-then-not-turn c = rw (c.in-OpenDrain.is, ← c.has-turn.ensures, c.if-not-turn.true)
 
-pub returns-else-not-has : goal.returns-else-not-has
+pub returns-else-not-turn : goal.returns-else-not-turn
 unfolding bit_of
-returns-else-not-has c = rw (c.in-OpenDrain.is, ← c.has-in-OpenDrain.ensures, c.if-not-has.false) c.has-else-not-has.ensures
+returns-else-not-turn c = rw (c.in-OpenDrain.is, ← c.has-turn.ensures, c.if-not-turn.false) c.has-value.ensures
