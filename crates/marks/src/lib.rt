@@ -41,7 +41,8 @@ fn reader_of(cell: Cell) -> Option<Net>
     }
 }
 
-// The set with the net besides whose own word was read, if some net's was.
+// The set with the net besides whose own word was read, if some net's was. The entry is 1 + that net, or 0: the code that crate readings
+// reads into it bit by bit, in fixed memory of two bytes a cell.
 fn with_read(set: NetSet, entry: u16) -> NetSet
     requires { entry ≤ 64 * net_words }
     ensures { member result.words ≡ plus_read (member set.words) entry }

@@ -2,7 +2,7 @@
 use Prim.Native.Nat.{ℕ, ◌+◌, ◌*◌, ◌/◌, ◌%◌, ◌≤◌, ◌<◌}
 use mathlib.Core.Path.{◌≡◌, refl, sym, ◌∙◌, ap}
 use mathlib.Core.Logic.{⊎_elim}
-use mathlib.Core.Bool.{Bool, true, false, not, ◌&&◌, ◌||◌, and-true, true≢false}
+use mathlib.Core.Bool.{Bool, false, not, ◌&&◌, ◌||◌, and-true}
 use mathlib.Core.List.{List}
 use native.Mathlib.Numerals.{add-one}
 use native.Mathlib.Omega.{arith}
@@ -33,9 +33,7 @@ all_stay left unlike changing entries l e =
     apart i = sym (bit-and left unlike i) ∙ ap (λ (x : ℕ). bit x i) e ∙ bit-zero i
 
     same : (a b s : Bool) → (a && b) ≡ false → a ≡ (a && not (b && s))
-    same true true s h = absurd (true≢false h)
-    same true false s h = refl
-    same false b s h = refl
+    same a b s h = grind arith
 
 pub byte-stays :
     (left : List ℕ) (j unlike : ℕ) (changing : ℕ → Bool) (entries : List ℕ) →
@@ -95,11 +93,7 @@ left-then {f} {g} {before} m k =
     }
   where
     both : (a x y : Bool) → ((a && not x) && not y) ≡ (a && not (y || x))
-    both true true true = refl
-    both true true false = refl
-    both true false true = refl
-    both true false false = refl
-    both false x y = refl
+    both a x y = grind arith
 
 pub left-all : {f : ℕ → Bool} {before : List ℕ} {n : ℕ} → ((c : ℕ) → f c ≡ false) → Left f before n before
 left-all h = record { long = refl; done = λ c l. rw (h c) (sym (and-true _)); rest = λ c l. refl }

@@ -2,13 +2,12 @@
 use Prim.Native.Nat.{ℕ, ◌+◌, ◌-◌, ◌/◌, ◌≤◌, ◌<◌}
 use mathlib.Core.Path.{◌≡◌, refl, sym, ◌∙◌, ap, subst}
 use mathlib.Core.Logic.{◌≢◌}
-use mathlib.Core.List.{List}
+use mathlib.Core.List.{List, ◌++◌}
 use native.Mathlib.Omega.{arith}
-use mathlib.Core.List.{◌++◌}
 use borrow.Author.Count.{below_more}
 use lib.ListN.{length, get_or, take, drop, set, length-set, length-drop, length-append, get_or-append}
-use Rattle.std.proofs.lemmas.List.{get_or-take, get_or-append_right, length-take-le}
 use lib.Seq.{get_or-set_same, get_or-set_other, get_or-drop}
+use Rattle.std.proofs.lemmas.List.{get_or-take, get_or-append_right, length-take-le}
 use Rattle.base.specs.Digits.{ceil}
 use Rattle.rules.specs.Rows.{row_bytes}
 use Rattle.readings.specs.Readings.{Mapped, MappedBy, Scanned, Entries}

@@ -2,7 +2,7 @@
 use Prim.Native.Nat.{ℕ, zero, suc, ◌+◌, ◌*◌, ◌-◌, ◌/◌, ◌%◌, ◌^◌, ◌≤◌, ◌<◌}
 use mathlib.Core.Path.{◌≡◌, refl, sym, ◌∙◌, ap, ap₂}
 use mathlib.Core.Logic.{◌⊎◌, inl, inr, ⊎_elim}
-use mathlib.Core.Bool.{Bool, true, false, cond, not, xor, ◌&&◌, ◌||◌, and-not_self}
+use mathlib.Core.Bool.{Bool, true, false, cond, not, xor, ◌&&◌, ◌||◌}
 use mathlib.Core.List.{List}
 use native.Mathlib.Nat.{add-zero, one-mul, div-one, eq-or-lt_of_le, mul-le-mul_right}
 use native.Mathlib.Numerals.{add-one}
@@ -14,7 +14,7 @@ use lib.Pow.{shr-shr}
 use Rattle.base.specs.Tests.{any, digit}
 use Rattle.base.specs.Digits.{bit}
 use Rattle.base.specs.Counting.{among}
-use Rattle.base.proofs.BoolLaws.{alike, decided, clashes, both, left, right, fails-not, fails-if, or-neither, below_suc, order}
+use Rattle.base.proofs.BoolLaws.{alike, decided, clashes, left, right, fails-not, fails-if, or-neither, below_suc, order}
 use Rattle.base.proofs.TestLaws.{any_none, none_any, all-at, all_from}
 use Rattle.base.proofs.CountingLaws.{among-more}
 use Rattle.rules.specs.Vectors.{code_bit, inserted_after, steps_of, vector_of}
@@ -309,17 +309,17 @@ module _ (p : Plan) (n : ℕ) (r : ℕ → Bool) (g : Kept p n r) where
 -- tests of two readings and two values
 not-other : (a b : Bool) → a ≡ b → xor a b ≡ false
 unfolding xor
-not-other true b e = rw (← e)
-not-other false b e = rw (← e)
+not-other a b e = grind arith
 
 follow : (a b x y : Bool) → (xor a b && not (xor x y)) ≡ false → x ≡ y → a ≡ b
-follow a b x y h e = alike a b (fails-if (xor a b) (λ t. clashes (both t (ap not (not-other x y e))) h))
+unfolding xor
+follow a b x y h e = grind arith
 
 followed : (a b x y : Bool) → a ≡ x → b ≡ y → (xor a b && not (xor x y)) ≡ false
-followed a b x y e h = rw (e, h) (and-not_self (xor x y))
+followed a b x y e h = grind arith
 
 and-rest : (a b : Bool) → a ≡ true → (a && b) ≡ false → b ≡ false
-and-rest a b e h = fails-if b (λ t. clashes (both e t) h)
+and-rest a b e h = grind arith
 
 -- a cell whose entry is net n's strays where its reading changes and the net does not
 module _ (p : Plan) (bytes : ℕ) (capture table : List ℕ) (n c : ℕ) (entry : get_or table c 0 ≡ suc n) where
@@ -410,7 +410,7 @@ unfolding lost other_later read_below off_at
 reads-left p capture cells bytes k table n c m entry h = neither stays repeats
   where
     neither : {a b : Bool} → a ≡ false → b ≡ false → (a || b) ≡ false
-    neither x y = rw (x, y)
+    neither x y = grind arith
 
     right-at : (t : ℕ) → t < length (steps_of (bases_for p)) → row_bit capture (t * bytes) c ≡ value_at p t n
     right-at t b = alike _ _ (fails-not _ (all-at (length (steps_of (bases_for p))) (λ u. not (off_at p bytes capture n c u)) h b))

@@ -163,7 +163,8 @@ fn clear(cells: usize, left: &[u8], table: &mut [u16])
 }
 
 // For each cell 1 + the net whose own word it reads in every vector, or 0, in a table that holds
-// nothing yet. A cell that reads a net's own word reads the net's code in the first group's base vectors.
+// nothing yet. A cell that reads a net's own word reads the net's code in the first group's base vectors. The entries are no `Option<Net>`:
+// they grow from 0 as codes, and the table is fixed memory of two bytes a cell.
 pub fn read_nets(capture: &[u8], plan: Plan, cells: usize, table: &mut [u16])
     requires captured { Captured plan capture.now cells (row_bytes cells) }
     requires entries { Entries 0 (8 * row_bytes cells) table.old }
