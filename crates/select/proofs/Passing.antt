@@ -17,6 +17,7 @@ use Rattle.rules.specs.declared.Driver.{Driver}
 use Rattle.rules.proofs.Shape.{laid, shaped}
 use Rattle.rules.proofs.DriverLaws.{is-driver, no-driver, net-below}
 use Rattle.words.specs.Sets.{net_words, nothing, either, plus, meets_in}
+use Rattle.cells.specs.Whole.{Whole}
 use Rattle.chains.specs.Table.{count_in}
 use Rattle.chains.proofs.Brought.{known-net}
 use Rattle.chains.proofs.SharingLaws.{control-fits}
@@ -96,6 +97,10 @@ pub stop-none : (wanted allowed : ℕ → Bool) (at : Option Driver) → None �
 unfolding stopping
 stop-none wanted allowed at e = rw (← e)
 
+-- a cell of a ready table's file
+pub whole_at : {file t : List ℕ} {c : ℕ} → Ready file t → c < cells_of file → Whole file c
+whole_at ready l = record { checked = ready.by-control.checked; below = l }
+
 -- what the table and the sets say of a driver of an accepted board
 module _ (file t : List ℕ) (ready : Ready file t) (c : ℕ) (l : c < cells_of file) (d : Driver) (e : driver_at (board_of file) c ≡ Some d) where
   -- the pass's test tells whether it stops there
@@ -105,7 +110,7 @@ module _ (file t : List ℕ) (ready : Ready file t) (c : ℕ) (l : c < cells_of 
   unfolding stopping wanted_in
   stop-told wanted allowed gives tells held r a h w is =
       let own = degree-held file t ready d.net.0 (net-below file ready.by-control.checked c l d.control d.net e) in
-      let fits = control-fits file c (record { checked = ready.by-control.checked; below = l }) d.control d.net e in
+      let fits = control-fits file c (whole_at ready l) d.control d.net e in
       rw (e, ← own, ← h, ← tells held d.control r fits w, is)
 
   -- its nets are below 256, so whether its control cell is marked is told by its nets
