@@ -1,7 +1,7 @@
 -- The highest drivers in the table's spare room: how they are filled in, and that the pass over them is the pass. There is room for one number
 -- a cell, so for each of them.
 use Prim.Native.Nat.{ℕ, zero, suc, ◌+◌, ◌-◌, ◌<◌, ◌≤◌}
-use mathlib.Core.Path.{◌≡◌, refl, ◌∙◌, ap, ap₂, subst}
+use mathlib.Core.Path.{◌≡◌, refl, ◌∙◌, ap, ap₂}
 use mathlib.Core.Logic.{⊎_elim}
 use mathlib.Core.Bool.{Bool, true, false}
 use mathlib.Core.List.{List, ◌∷◌}
@@ -103,10 +103,6 @@ module _ (file : List ℕ) (c : ℕ) (t : List ℕ) (found : ℕ) (o : Ordered f
           (λ (e : i ≡ found). rw (e, here) (omega arith))
           (λ (m : i < found). rw (get_or-set_other t (spare_from + found) (spare_from + i) c 0 (λ (e : spare_from + i ≡ spare_from + found). omega arith)) (let b = o.below i m in omega arith))
           (below_suc m)
-
--- past the last position it has all
-pub ordered-all : {file : List ℕ} {c : ℕ} {t : List ℕ} {found : ℕ} → Ordered file c t found → c ≡ cells_of file → Order file t found
-ordered-all {file} {c} {t} {found} o e = subst (λ (n : ℕ). Ordered file n t found) e o
 
 -- the pass over the first i entries, from the last down
 module _ (b : Board) (wanted allowed : ℕ → Bool) (t : List ℕ) where

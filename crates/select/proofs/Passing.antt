@@ -1,11 +1,11 @@
 -- Laws of one position of a pass and of a group, over the sets that hold what is on.
 use Prim.Native.Nat.{ℕ, zero, suc, ◌-◌, ◌*◌, ◌<◌, ◌≤◌}
 use mathlib.Core.Path.{◌≡◌, refl, sym, ◌∙◌, ap, subst, fun_ext}
-use mathlib.Core.Bool.{Bool, true, false, cond, not, ◌&&◌, ◌||◌}
+use mathlib.Core.Bool.{Bool, true, false, cond, not, ◌&&◌}
 use mathlib.Core.List.{List, [], ◌∷◌}
 use native.Mathlib.Numerals.{sub-one}
 use native.Mathlib.Omega.{arith}
-use lib.Dec.{eqb, ltb, leb}
+use lib.Dec.{ltb, leb}
 use Rattle.base.specs.Lists.{has}
 use Rattle.base.proofs.ListLaws.{has-append}
 use Rattle.std.specs.Prelude.{None, Option, Some}
@@ -17,6 +17,7 @@ use Rattle.rules.specs.declared.Driver.{Driver}
 use Rattle.rules.proofs.Shape.{laid, shaped}
 use Rattle.rules.proofs.DriverLaws.{is-driver, no-driver, net-below}
 use Rattle.words.specs.Sets.{net_words, nothing, either, plus, meets_in}
+use Rattle.cells.specs.Whole.{Whole}
 use Rattle.chains.specs.Table.{count_in}
 use Rattle.chains.proofs.Brought.{known-net}
 use Rattle.chains.proofs.SharingLaws.{control-fits}
@@ -27,20 +28,18 @@ use Rattle.select.proofs.Marking.{covered-marked, marked-reached}
 -- one cell more is on
 pub on-grown : (f g : ℕ → Bool) (on : List ℕ) (k : ℕ) → f ≡ listed on → g ≡ plus f k → g ≡ listed (k ∷ on)
 unfolding has
-on-grown f g on k e h = fun_ext (λ m. ap (λ (s : ℕ → Bool). s m) h ∙ ap (λ (s : ℕ → Bool). eqb m k || s m) e)
+on-grown f g on k e h = rw (h, e) refl
 
 -- and its nets are covered
 pub covered-grown : (b : Board) (nets f g : ℕ → Bool) (on : List ℕ) (k : ℕ) → nets ≡ drives b k → f ≡ covered_by b on → g ≡ either nets f → g ≡ covered_by b (k ∷ on)
 unfolding covered_by
-covered-grown b nets f g on k n e h =
-    fun_ext (λ m. ap (λ (s : ℕ → Bool). s m) h ∙ ap (λ (s : ℕ → Bool). s m || f m) n ∙ ap (λ (s : ℕ → Bool). drives b k m || s m) e)
+covered-grown b nets f g on k n e h = rw (h, n, e) refl
 
 -- its nets decide whether it joins
 module _ (b : Board) (nets f : ℕ → Bool) (on : List ℕ) (k : ℕ) (r : Bool) (n : nets ≡ drives b k) (e : f ≡ covered_by b on) (h : r ≡ meets_in (64 * net_words) nets f) where
   told : (a : Bool) → r ≡ a → reached b on k ≡ a
   unfolding reached
-  told a t =
-      ap (λ (s : ℕ → Bool). meets_in (64 * net_words) s (covered_by b on)) (sym n) ∙ ap (meets_in (64 * net_words) nets) (sym e) ∙ sym h ∙ t
+  told a t = cc
 
   pub not-joined : r ≡ true → on ≡ joined b on k
   unfolding joined
@@ -96,6 +95,10 @@ pub stop-none : (wanted allowed : ℕ → Bool) (at : Option Driver) → None �
 unfolding stopping
 stop-none wanted allowed at e = rw (← e)
 
+-- a cell of a ready table's file
+pub whole_at : {file t : List ℕ} {c : ℕ} → Ready file t → c < cells_of file → Whole file c
+whole_at ready l = record { checked = ready.by-control.checked; below = l }
+
 -- what the table and the sets say of a driver of an accepted board
 module _ (file t : List ℕ) (ready : Ready file t) (c : ℕ) (l : c < cells_of file) (d : Driver) (e : driver_at (board_of file) c ≡ Some d) where
   -- the pass's test tells whether it stops there
@@ -105,7 +108,7 @@ module _ (file t : List ℕ) (ready : Ready file t) (c : ℕ) (l : c < cells_of 
   unfolding stopping wanted_in
   stop-told wanted allowed gives tells held r a h w is =
       let own = degree-held file t ready d.net.0 (net-below file ready.by-control.checked c l d.control d.net e) in
-      let fits = control-fits file c (record { checked = ready.by-control.checked; below = l }) d.control d.net e in
+      let fits = control-fits file c (whole_at ready l) d.control d.net e in
       rw (e, ← own, ← h, ← tells held d.control r fits w, is)
 
   -- its nets are below 256, so whether its control cell is marked is told by its nets
@@ -119,7 +122,7 @@ module _ (file t : List ℕ) (ready : Ready file t) (c : ℕ) (l : c < cells_of 
   unfolding board_of
   marked-told on f r h w told-true =
       let is = is-driver (board_of file) c d.control d.net e in
-      let m = covered-marked (board_of file) nets-bounded known on c l is.0 (ap (covered_by (board_of file) on) is.2 ∙ ap (λ (s : ℕ → Bool). s d.net.0) (sym h) ∙ sym w ∙ told-true) in
+      let m = covered-marked (board_of file) nets-bounded known on c l is.0 (cc) in
       ap (marked (board_of file) on) (sym is.1) ∙ m
 
   pub reached-told : (on : List ℕ) → marked (board_of file) on d.control.0 ≡ reached (board_of file) on d.control.0
@@ -141,7 +144,7 @@ pub selected-is : (b : Board) (g : ℕ) (used : List ℕ) (f : ℕ → Bool) (si
     → Holds b (passes b g f size) turned → turned.on ≡ listed (selected b g used)
 unfolding selected first_pass second_pass wanted_in
 selected-is b g used f size turned e s h =
-    h.on-are ∙ ap (λ (x : ℕ). listed (passes b g f x)) s ∙ ap (λ (t : ℕ → Bool). listed (passes b g t b.size)) e
+    h.on-are ∙ rw (s, e) refl
 
 -- group by group: no earlier group, one more of them, and the group itself
 pub earlier-none : (b : Board) (f : ℕ → Bool) → f ≡ nothing → f ≡ listed (earlier b 0)
@@ -152,10 +155,7 @@ pub earlier_more : (b : Board) (j : ℕ) (on f g : ℕ → Bool) → 0 < j → o
 unfolding earlier
 earlier_more b zero on f g l s e h = absurd (omega arith)
 earlier_more b (suc j) on f g l s e h =
-    fun_ext (λ m. ap (λ (t : ℕ → Bool). t m) h
-    ∙ ap (λ (t : ℕ → Bool). t m || f m) (rw sub-one at s)
-    ∙ ap (λ (t : ℕ → Bool). has m (selected b (suc j) (earlier b j)) || t m) (rw sub-one at e)
-    ∙ sym (has-append m (selected b (suc j) (earlier b j)) (earlier b j)))
+    rw (h, rw sub-one at s, rw sub-one at e) (fun_ext (λ m. sym (has-append m (selected b (suc j) (earlier b j)) (earlier b j))))
 
 pub group-is : (b : Board) (g : ℕ) (on : ℕ → Bool) → 0 < g → on ≡ listed (selected b g (earlier b (g - 1))) → on ≡ on_in b g
 unfolding on_in group

@@ -1,4 +1,4 @@
--- The two passes' tests, and what the sets of a pass hold: the control cells that are on, and their nets.
+-- What a pass is lent to test a driver by, and what its sets hold: the control cells that are on, and their nets.
 use Rattle.std.specs.Prelude.{ℕ, ◌*◌, ◌<◌, ◌≡◌, Bool, false, cond, ◌&&◌, ◌||◌, List, [], ◌∷◌, length, None, Option, Some}
 use Rattle.base.specs.Lists.{has}
 use Rattle.rules.specs.File.{Board, board_of, cells_of}
@@ -12,11 +12,11 @@ use Rattle.chains.specs.Table.{ControlCell, table_size}
 use Rattle.chains.specs.Chains.{Chains}
 use Rattle.chains.specs.Counts.{Counted}
 
--- a pass's test of a driver, by its net's degree and its control cell, may be asked on each board
+-- a pass's test of a driver, by its net's degree and its control cell: it may be asked of each driver
 abbrev pub Callable : (ℕ → Position → Type 0) → Type 0
 Callable may = (degree : ℕ) (k : Position) → k.0 < most_cells → may degree k
 
--- and it tells whether nets of that degree are wanted, and that control cell is allowed
+-- and it tells whether nets of that degree are wanted, and that control cell allowed
 abbrev pub Tells : (ℕ → Position → Bool → Type 0) → (ℕ → Bool) → (ℕ → Bool) → Type 0
 Tells gives wanted allowed = (degree : ℕ) (k : Position) (stops : Bool) → k.0 < most_cells → gives degree k stops → stops ≡ (wanted degree && allowed k.0)
 

@@ -12,7 +12,7 @@ use chains::TABLE;
 use rules::Position;
 use words::{CELL_WORDS, CellSet, NetSet, loops};
 
-// The control cells that group g turns on, after the earlier ones.
+// The control cells that group g turns on, after the earlier ones: the two passes, each with its test of a driver.
 pub fn selected(
     file: &[u8],
     table: &[u16; TABLE],
@@ -24,8 +24,10 @@ pub fn selected(
     ensures { (used : List ℕ) → member earlier.words ≡ listed used → member result.words ≡ listed (selected (board_of file.now) g used) }
 {
     let mut words = [0u64; CELL_WORDS];
+    // "First pass ..: at a kind 3 output whose net has degree g or more, whose control cell .. was on in no earlier group".
     let first = |degree: usize, k: Position| g <= degree
         && !loops::has(&earlier.words, k.0 as usize);
+    // "Second pass, same order: at a kind 3 output whose net has degree below g ..; earlier groups don't matter here".
     let second = |degree: usize, _: Position| degree < g;
     let covered = run_pass(file, table, found, first, NetSet::empty(), &mut words);
     run_pass(file, table, found, second, covered, &mut words);

@@ -68,8 +68,8 @@ fn turn(
 }
 
 // A pass over the highest drivers, of which the table holds `found`, from the highest down: at no other does it
-// turn anything on. It stops at those whose degree and control cell pass its test. The control cells that it turns on
-// join `on`, and their nets the covered ones, which it returns.
+// turn anything on. `stops` is its test, of a net's degree and a control cell; the two passes of a group differ in it
+// alone. The control cells that it turns on join `on`, and their nets the covered ones, which it returns.
 pub(crate) fn run_pass<F: Fn(usize, Position) -> bool>(
     file: &[u8],
     table: &[u16; TABLE],

@@ -19,7 +19,7 @@ pub loop-n-init : goal.loop-n-init
 loop-n-init c = so-far-none _ _ c.requires.ready
 
 pub loop-n-preserved : goal.loop-n-preserved
-loop-n-preserved c = so_far_more _ _ c.requires.ready _ _ _ _ (omega arith) c.loop-n.invariant c.drivers_on.ensures c.max-most.ensures
+loop-n-preserved c = so_far_more _ _ c.requires.ready _ _ _ _ (omega arith) c.loop-n.invariant c.drivers_on.ensures (cc)
 
 pub returns : goal.returns
 returns c = c.loop-n.invariant ∙ so-far-all _ _ c.requires.ready _ (omega arith)

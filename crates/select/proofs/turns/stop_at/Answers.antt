@@ -3,7 +3,7 @@ use mathlib.Core.Path.{◌≡◌, sym, ◌∙◌}
 use Rattle.std.specs.Prelude.{None}
 use borrow.Author.Rules.{rules}
 use Rattle.chains.proofs.SharingLaws.{net-fits, control-fits}
-use Rattle.select.proofs.Passing.{stop-none, stop-told}
+use Rattle.select.proofs.Passing.{whole_at, stop-none, stop-told}
 use Rattle.select.proofs.turns.stop_at.Goals as goal
 
 pub returns-in_err-driver-clause-stops : goal.returns-in_err-driver-clause-stops
@@ -13,11 +13,11 @@ returns-in_err-driver-clause-stops g c wanted allowed tells =
 
 pub drivers_on-requires : goal.drivers_on-requires
 drivers_on-requires g c =
-    net-fits _ _ (record { checked = c.requires.ready.by-control.checked; below = c.requires.c_bound }) _ _ (sym c.in_ok-driver.ensures)
+    net-fits _ _ (whole_at c.requires.ready c.requires.c_bound) _ _ (sym c.in_ok-driver.ensures)
 
 pub stops-requires : goal.stops-requires
 stops-requires g c =
-    let fits = control-fits _ _ (record { checked = c.requires.ready.by-control.checked; below = c.requires.c_bound }) _ _ (sym c.in_ok-driver.ensures) in
+    let fits = control-fits _ _ (whole_at c.requires.ready c.requires.c_bound) _ _ (sym c.in_ok-driver.ensures) in
     search rules
 
 pub returns-then-stops-clause-stops : goal.returns-then-stops-clause-stops

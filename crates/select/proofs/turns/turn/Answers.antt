@@ -2,13 +2,13 @@
 use native.Mathlib.Omega.{arith}
 use Rattle.rules.proofs.DriverLaws.{control-below}
 use Rattle.chains.proofs.SharingLaws.{net-fits, control-fits}
-use Rattle.select.proofs.Passing.{holds_same, to-marked, to-joined, marked-told, reached-told}
+use Rattle.select.proofs.Passing.{whole_at, holds_same, to-marked, to-joined, marked-told, reached-told}
 use Rattle.select.proofs.turns.turn.Goals as goal
 
 pub has-requires : goal.has-requires
 has-requires c =
     let at = c.requires.on_board in
-    (omega arith, net-fits _ _ (record { checked = c.requires.ready.by-control.checked; below = at.1 }) _ _ at.2)
+    (omega arith, net-fits _ _ (whole_at c.requires.ready at.1) _ _ at.2)
 
 pub returns-then-has : goal.returns-then-has
 returns-then-has c on h =
@@ -24,7 +24,7 @@ pub turn_on-requires : goal.turn_on-requires
 turn_on-requires c =
     let at = c.requires.on_board in
     let long = c.requires.on_len in
-    let fits = control-fits _ _ (record { checked = c.requires.ready.by-control.checked; below = at.1 }) _ _ at.2 in
+    let fits = control-fits _ _ (whole_at c.requires.ready at.1) _ _ at.2 in
     omega arith
 
 pub returns : goal.returns

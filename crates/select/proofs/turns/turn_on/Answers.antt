@@ -14,6 +14,3 @@ returns c b n on h =
       on-are = on-grown _ _ _ _ h.on-are c.add.ensures;
       covered-are = covered-grown _ _ _ _ _ _ n h.covered-are c.union.ensures;
     })
-
-pub add-requires : goal.add-requires
-add-requires c = c.requires
