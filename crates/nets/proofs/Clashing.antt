@@ -155,7 +155,8 @@ module _ (b : Board) (n : ℕ) where
               (λ (q : c ≡ cell). rw q ((is-driver b cell k _ e).0, more-at (control_for b cell) ∙ or_left _ (eq-eqb _ _ own)))
               (λ (q : suc cell ≤ c). let d = w.drivers c q m o in (d.0, more-at (control_for b c) ∙ or_right (eqb (control_for b c) k.0) d.1))
 
-          bringers-are : (j : ℕ) → more j ≡ true → (c : ℕ) × (last cell (keyed b NetOf n) ≤ c) × (c < b.size) × (output_of b n c ≡ true) × (controlled b c ≡ true) × (control_for b c ≡ j)
+          bringers-are : (j : ℕ) → more j ≡ true
+              → (c : ℕ) × (last cell (keyed b NetOf n) ≤ c) × (c < b.size) × (output_of b n c ≡ true) × (controlled b c ≡ true) × (control_for b c ≡ j)
           bringers-are j t =
               let v = last-le cell (keyed b NetOf n) in
               let u = w.under in
@@ -164,7 +165,8 @@ module _ (b : Board) (n : ℕ) where
               (λ (q : met j ≡ true). let c = w.bringers j q in let h = c.1 in (c.0, omega arith, c.2, c.3, c.4, c.5))
               (or_cases (eqb j k.0) (sym (more-at j) ∙ t))
 
-          apart-are : (c d : ℕ) → last cell (keyed b NetOf n) ≤ d → d < c → c < b.size → output_of b n c ≡ true → output_of b n d ≡ true → control_for b c ≡ control_for b d → ⊥
+          apart-are : (c d : ℕ) → last cell (keyed b NetOf n) ≤ d → d < c → c < b.size → output_of b n c ≡ true → output_of b n d ≡ true
+              → control_for b c ≡ control_for b d → ⊥
           apart-are c d l m h o u q =
               passed d l u
               (λ (r : d ≡ cell). clashes (ap met (sym (q ∙ ap (control_for b) r ∙ own)) ∙ (w.drivers c (omega arith) h o).1) new)

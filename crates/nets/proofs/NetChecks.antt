@@ -14,13 +14,13 @@ use Rattle.rules.specs.File.{board_of, cells_of, nets_of}
 use Rattle.rules.specs.Drivers.{drivers}
 use Rattle.rules.specs.Refusals.{Check, judge, each, undriven, clashing, crowded, most_drivers, most_nets, net_checks, Verdict}
 use Rattle.rules.specs.declared.Position.{Position}
-use Rattle.rules.proofs.Shape.{laid, shaped}
 use Rattle.rules.proofs.Verdicts.{and_then, Then, judge-then, judge-same}
 use Rattle.chains.specs.Table.{NetOf, entry_of}
 use Rattle.chains.specs.Chains.{keyed, last}
 use Rattle.chains.specs.Filling.{Filled}
 use Rattle.chains.proofs.Chaining.{keyed-net}
 use Rattle.nets.specs.Nets.{undriven_in, crowded_in}
+use Rattle.nets.proofs.Fits.{nets_fit}
 
 -- an entry is 0 exactly where it names none
 pub none-zero : (at : Option Position) (entry : ℕ) (none : Bool) → entry_of at ≡ entry → is_some at ≡ not none → none ≡ eqb entry 0
@@ -46,8 +46,8 @@ any_same n p q h =
     (λ t. let m = any-member n q t in any_at n p m.1 (h m.0 ∙ m.2))
 
 module _ (file t : List ℕ) (nets : ℕ) (filled : Filled file t) (e : nets ≡ nets_of file) where
-  pub nets-fit : nets ≤ most_nets
-  nets-fit = let f = (laid file (shaped file filled.by-net.checked)).nets.at_most in omega arith
+  nets-fit : nets ≤ most_nets
+  nets-fit = let f = nets_fit file filled.by-net.checked in omega arith
 
   undriven-is : (n : ℕ) → n < nets → undriven (board_of file) n ≡ undriven_in t n
   unfolding undriven undriven_in board_of

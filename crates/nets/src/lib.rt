@@ -1,5 +1,5 @@
 // Refusals 7 to 9: every net has an output, no two of its outputs clash, and it is not crowded.
-#![tactic(auto)]
+#![tactic(auto, using(crate::proofs::Fits::fits))]
 
 ghost use Rattle.std.specs.Prelude.{◌≡◌, true, false, ◌∷◌, [], ◌<◌, ◌≤◌};
 ghost use Rattle.rules.specs.File.{board_of, nets_of};

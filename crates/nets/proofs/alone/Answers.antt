@@ -7,9 +7,6 @@ use Rattle.nets.proofs.Clashing.{none-alone, one-alone, more-several, head-below
 use Rattle.nets.proofs.NetChecks.{none-zero}
 use Rattle.nets.proofs.alone.Goals as goal
 
-pub net_head-requires : goal.net_head-requires
-net_head-requires c = net-fits _ c.requires.chains.checked _ c.requires.n_bound
-
 pub returns-in_default-clause-alone : goal.returns-in_default-clause-alone
 returns-in_default-clause-alone c t =
     none-alone _ _ c.requires.chains _ (net-fits _ c.requires.chains.checked _ c.requires.n_bound) (sym c.net_head.ensures ∙ ap entry_of c.in_default.is)

@@ -2,11 +2,8 @@
 use Rattle.std.proofs.Common.{refl}
 use Rattle.std.proofs.lemmas.Result.{err_from_is_err_and}
 use Rattle.rules.proofs.Verdicts.{stopped, passed}
-use Rattle.nets.proofs.NetChecks.{nets-fit, nets-judged, later-judged}
+use Rattle.nets.proofs.NetChecks.{nets-judged, later-judged}
 use Rattle.nets.proofs.nets_verdict.Goals as goal
-
-pub undriven_verdict-requires : goal.undriven_verdict-requires
-undriven_verdict-requires c = nets-fit _ _ _ c.requires.filled c.requires.nets_value
 
 pub returns-in_err-undriven_verdict : goal.returns-in_err-undriven_verdict
 returns-in_err-undriven_verdict c =
@@ -18,9 +15,6 @@ returns-in_err-clash_verdict c =
     let p = err_from_is_err_and c.from_residual-in_err-clash_verdict.result c.from_residual-in_err-clash_verdict.ensures.1 in
     passed (nets-judged _ _ _ c.requires.filled c.requires.nets_value) c.undriven_verdict.ensures c.in_ok-undriven_verdict.was
     (rw (p.1, p.2) (stopped (later-judged _ _ _ c.requires.filled c.requires.nets_value) c.in_err-clash_verdict.ensures refl))
-
-pub crowded_verdict-requires : goal.crowded_verdict-requires
-crowded_verdict-requires c = nets-fit _ _ _ c.requires.filled c.requires.nets_value
 
 pub returns : goal.returns
 returns c =
