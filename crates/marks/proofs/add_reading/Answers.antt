@@ -8,7 +8,7 @@ pub returns-in_default : goal.returns-in_default
 returns-in_default c = grown-none _ _ _ _ c.requires.tested_below cc
 
 pub with-seen-requires : goal.with-seen-requires
-with-seen-requires c = net-fits _ c.requires.readings.checked _ c.requires.c_bound _ cc
+with-seen-requires c = (omega arith, net-fits _ c.requires.readings.checked _ c.requires.c_bound _ cc)
 
 pub overflow_add-net : goal.overflow_add-net
 overflow_add-net c = let f = net-fits _ c.requires.readings.checked _ c.requires.c_bound c.in-Some.net (cc) in omega arith
@@ -18,7 +18,7 @@ returns-then-entry-net c =
     grown-own _ _ _ _ c.requires.tested_below _ (cc) _ c.with-seen.ensures refl refl c.if-entry-net.true
 
 pub with-failed-requires : goal.with-failed-requires
-with-failed-requires c = net-fits _ c.requires.readings.checked _ c.requires.c_bound _ cc
+with-failed-requires c = (omega arith, net-fits _ c.requires.readings.checked _ c.requires.c_bound _ cc)
 
 pub with_read-twice-requires : goal.with_read-twice-requires
 with_read-twice-requires c = entry-fits _ _ c.requires.readings _ c.requires.c_bound

@@ -15,7 +15,7 @@ count_mark-counts-requires c =
 
 pub loop-n-preserved : goal.loop-n-preserved
 loop-n-preserved c =
-    marked_more _ _ c.loop-n.invariant c.loop-n-test.true _ _ (c.byte_of.ensures ∙ ap byte_of c.mark_of-mark.ensures) (c.count_mark-counts.ensures ∙ cc)
+    marked_more _ _ c.loop-n.invariant c.loop-n-test.true _ _ (c.from.ensures ∙ ap byte_of c.mark_of-mark.ensures) (c.count_mark-counts.ensures ∙ cc)
 
 pub returns : goal.returns
 returns c =
