@@ -1,14 +1,14 @@
 -- The number, the room, then the row.
-use Prim.Native.Nat.{◌≤◌, ◌<◌}
-use mathlib.Core.Path.{◌≡◌, sym, ◌∙◌, ap}
-use mathlib.Core.List.{[], ◌∷◌}
+use Prim.Native.Nat.{ℕ, ◌≤◌, ◌<◌}
+use mathlib.Core.Path.{◌≡◌, refl, sym, ◌∙◌, ap}
+use mathlib.Core.List.{List, [], ◌∷◌}
 use native.Mathlib.Omega.{arith}
 use borrow.Author.Tests.{ltb-false, leb-false}
 use lib.Dec.{leb}
 use Rattle.rules.specs.Rows.{row_bytes}
 use Rattle.rules.specs.File.{board_of}
 use Rattle.rules.specs.Vectors.{total_of}
-use Rattle.rules.specs.Refusals.{judge, once, short, vector_checks, most_cells}
+use Rattle.rules.specs.Refusals.{judge, once, short, vector_checks, most_cells, Verdict}
 use Rattle.rules.proofs.VectorsDriven.{vector-group}
 use Rattle.rules.proofs.Shape.{laid, shaped, one_block}
 use Rattle.rules.proofs.CheckLaws.{once-accepted}
@@ -19,33 +19,28 @@ use Rattle.rules.specs.Answers.{vector_outcome, vector_answer}
 use Rattle.rigcandle.specs.Asking.{answer_bits}
 use Rattle.rules.proofs.Verdicts.{given_on}
 use Rattle.rigcandle.proofs.questions.answer_vector.Goals as goal
-use Rattle.rigcandle.proofs.questions.answer_vector.Goals.{After-once, After-once-2, After-plan_of-plan, In_ok-once}
+use Rattle.rigcandle.proofs.questions.answer_vector.Goals.{After-once-2, After-plan_of-plan, In_ok-once}
 
 small : (c : After-plan_of-plan) → c.read_sizes-cells.result.cells ≤ most_cells
 small c = cells-within _ c.requires.ready.accepted (c.read_sizes-cells.ensures.cells)
 
--- the total is the board's
-total-of : (c : After-once) → c.total.result ≡ total_of (board_of c.args.file.now)
-total-of c = c.total.ensures ∙ total-is _ _ c.plan_of-plan.ensures
-
 -- what the number's check is, and the room's
-number_is : (c : After-once) → c.once.result ≡ judge (once 13 (leb (total_of (board_of c.args.file.now)) c.args.number) ∷ [])
-number_is c = check-by (λ t. once 13 (leb t c.args.number)) c.once.ensures (total-of c)
+number_is :
+    (f : List ℕ) (number : ℕ) {v : Verdict} {t : ℕ} →
+    v ≡ judge (once 13 (leb t number) ∷ []) → t ≡ total_of (board_of f) → v ≡ judge (once 13 (leb (total_of (board_of f)) number) ∷ [])
+number_is f number e t = check-by (λ n. once 13 (leb n number)) e t
 
 room-is : (c : After-once-2) → c.once-2.result ≡ judge (vector_checks c.args.file.now c.args.number c.args.out.now)
 unfolding vector_checks
 room-is c =
     let room = check-by (short c.args.out.now) c.once-2.ensures (c.row_bytes.ensures ∙ ap row_bytes c.read_sizes-cells.ensures.cells) in
-    second-decides _ c.requires.counted _ _ (number_is (before c)) c.in_ok-once.was room
-  where
-    before : (c : After-once-2) → After-once
-    before c = ?
+    second-decides _ c.requires.counted _ _ (number_is _ _ c.once.ensures (c.total.ensures ∙ total-is _ _ c.plan_of-plan.ensures)) c.in_ok-once.was room
 
 pub returns-in_err-once : goal.returns-in_err-once
 unfolding answer_bits vector_checks
 returns-in_err-once c =
     let told = c.in_err-once.was in
-    let number = first-decides _ c.requires.counted _ _ (number_is (goal.at.returns-in_err-once c).After-once) told in
+    let number = first-decides _ c.requires.counted _ _ (number_is _ _ c.once.ensures (c.total.ensures ∙ total-is _ _ c.plan_of-plan.ensures)) told in
     let given = vector-refused refl refl _ _ _ (sym told ∙ number) in
     record { value = rw (given_on _ c.from_residual.ensures.1) given.0; out_after = given.1 }
 

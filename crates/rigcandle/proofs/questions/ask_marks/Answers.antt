@@ -1,19 +1,16 @@
 -- The plan or a refusal, then the answer.
-use mathlib.Core.Path.{refl, sym}
+use Rattle.std.proofs.Common.{refl, sym, ◌∙◌}
 use Rattle.rules.specs.Refusals.{count_checks, marks_checks}
-use Rattle.rules.proofs.Verdicts.{stopped, then_append}
-use Rattle.rigcandle.proofs.AnswerLaws.{Gives, marks-refused}
-use Rattle.rules.specs.Answers.{marks_outcome, marks_answer}
+use Rattle.rules.proofs.Verdicts.{given_on, stopped, then_append}
+use Rattle.rigcandle.specs.Asking.{answer_bits}
+use Rattle.rigcandle.proofs.AnswerLaws.{marks-refused}
 use Rattle.rigcandle.proofs.questions.ask_marks.Goals as goal
 
-pub returns-in-Refused : goal.returns-in-Refused
-unfolding marks_checks
-returns-in-Refused c =
-    let v = sym (c.make_plan-answer.ensures.refused _ c.in-Refused.is) in
-    let given : Gives c.verdict_bits.result c.args.out.now (marks_outcome (marks_answer c.args.file.now c.args.capture.now c.args.out.now)) =
-    marks-refused c.verdict_bits.ensures refl _ _ _ (stopped (then_append (count_checks _) _) v refl) in
-    record { value = given.0; out_after = given.1 }
+pub returns-in_err-plan : goal.returns-in_err-plan
+unfolding answer_bits marks_checks
+returns-in_err-plan c =
+    let given = marks-refused refl refl _ _ _ (stopped (then_append (count_checks _) _) (sym c.in_err-plan.ensures) refl) in
+    record { value = rw (given_on _ c.from_residual.ensures.1) given.0; out_after = given.1 }
 
 pub answer_marks-requires : goal.answer_marks-requires
-answer_marks-requires c =
-    let made = c.make_plan-answer.ensures.made _ c.in-Made.is in record { file_value = made.0; plan_of = made.1 }
+answer_marks-requires c = let m = c.in_ok-plan.ensures in record { file_value = m.0; plan_of = m.1 }
