@@ -100,6 +100,7 @@ fn step_in(plan: Plan, turn: usize, t: usize) -> Step
         }
         left -= extra + 1;
     }
+    // t is below the round's length, so it lies in one of its parts: proved.
     unreachable!()
 }
 
