@@ -48,7 +48,11 @@ fn answer_groups(file: &[u8], out: &mut [u8], table: &mut [u16; TABLE]) -> Resul
     Ok(group_bits(plan.groups))
 }
 
-pub(crate) fn ask_groups(file: &[u8], out: &mut [u8], table: &mut [u16; TABLE]) -> Result<u64, Refusal>
+pub(crate) fn ask_groups(
+    file: &[u8],
+    out: &mut [u8],
+    table: &mut [u16; TABLE],
+) -> Result<u64, Refusal>
     requires { Blank table.old }
     ensures value { answer_bits result ≡ (groups_outcome (groups_answer file.now out.old)).bits }
     ensures out_after { out.new ≡ (groups_outcome (groups_answer file.now out.old)).buffer }
@@ -58,7 +62,12 @@ pub(crate) fn ask_groups(file: &[u8], out: &mut [u8], table: &mut [u16; TABLE]) 
 }
 
 // Vector `number` of an admitted board. Refusals 13 and 15.
-fn answer_vector(file: &[u8], number: u64, out: &mut [u8], table: &mut [u16; TABLE]) -> Result<u64, Refusal>
+fn answer_vector(
+    file: &[u8],
+    number: u64,
+    out: &mut [u8],
+    table: &mut [u16; TABLE],
+) -> Result<u64, Refusal>
     requires { Admitted file.now table.old }
     ensures value { answer_bits result ≡ (vector_outcome (vector_answer file.now number out.old)).bits }
     ensures out_after { out.new ≡ (vector_outcome (vector_answer file.now number out.old)).buffer }
@@ -71,7 +80,12 @@ fn answer_vector(file: &[u8], number: u64, out: &mut [u8], table: &mut [u16; TAB
     Ok(group_bits(group))
 }
 
-pub(crate) fn ask_vector(file: &[u8], number: u64, out: &mut [u8], table: &mut [u16; TABLE]) -> Result<u64, Refusal>
+pub(crate) fn ask_vector(
+    file: &[u8],
+    number: u64,
+    out: &mut [u8],
+    table: &mut [u16; TABLE],
+) -> Result<u64, Refusal>
     requires { Blank table.old }
     ensures value { answer_bits result ≡ (vector_outcome (vector_answer file.now number out.old)).bits }
     ensures out_after { out.new ≡ (vector_outcome (vector_answer file.now number out.old)).buffer }

@@ -1,8 +1,6 @@
 -- The table of an admitted board is its own.
-use Rattle.std.proofs.Common.{◌∙◌, sym}
+use Rattle.std.proofs.Common.{sym}
 use Rattle.listing.proofs.list.Goals as goal
 
 pub say_vectors-requires : goal.say_vectors-requires
-say_vectors-requires g c =
-    let v = c.admit-admitted.ensures in
-    (v.admitted (sym v.value ∙ c.in-Accepted.is)).ready
+say_vectors-requires g c = (c.in-Ok.ensures.admitted (sym c.in-Ok.ensures.value)).ready

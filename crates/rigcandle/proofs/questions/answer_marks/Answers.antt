@@ -56,7 +56,7 @@ unfolding answer_bits marks_checks
 returns-in_err-once c =
     let told = c.in_err-once.was in
     let capture = first-decides _ c.requires.file_value _ _
-        (capture-is _ _ c.once.ensures (c.total.ensures ∙ total-is _ _ c.requires.plan_of) (c.row_bytes.ensures ∙ ap row_bytes c.read_sizes-sizes.ensures.cells)) told in
+    (capture-is _ _ c.once.ensures (c.total.ensures ∙ total-is _ _ c.requires.plan_of) (c.row_bytes.ensures ∙ ap row_bytes c.read_sizes-sizes.ensures.cells)) told in
     let given = marks-refused refl refl _ _ _ (sym told ∙ capture) in
     record { value = rw (given_on _ c.from_residual.ensures.1) given.0; out_after = given.1 }
 
