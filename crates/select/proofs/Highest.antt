@@ -150,14 +150,15 @@ pub highest-none : (b : Board) (c : ℕ) → driver_at b c ≡ None → false �
 unfolding highest
 highest-none b c e = rw (no-driver b c e)
 
+-- the test of the head that was found is the test of its entry
+head-tested : (top : Option Position) (entry c : ℕ) (r : Bool) → entry_of top ≡ entry → MatchOption top (r ≡ false) (λ p. r ≡ eqb p.0 c) → r ≡ eqb entry (suc c)
+head-tested None entry c r e f = rw (← e, eqb-zero-suc) f
+head-tested (Some p) entry c r e f = rw (← e, eqb-suc-suc) f
+
 module _ (file t : List ℕ) (chains : Chains file ControlCell t) (c : ℕ) (l : c < cells_of file) (k : Position) (n : Net) (e : driver_at (board_of file) c ≡ Of k n) where
   pub highest-told : (top : Option Position) → entry_of top ≡ head_in ControlCell t k.0 → (r : Bool) → MatchOption top (r ≡ false) (λ p. r ≡ eqb p.0 c) → r ≡ highest (board_of file) c
   unfolding highest board_of
   highest-told top w r h =
       let d = is-driver (board_of file) c k n e in
       let own = cell-fits file chains.checked k.0 (control-below file chains.checked c l k n e) in
-      rw (d.0, d.1) (go top (w ∙ chains.linked.head k.0 own) h)
-    where
-      go : (top : Option Position) → entry_of top ≡ last (cells_of file) (keyed (board_of file) ControlCell k.0) → MatchOption top (r ≡ false) (λ p. r ≡ eqb p.0 c) → r ≡ eqb (last (cells_of file) (keyed (board_of file) ControlCell k.0)) (suc c)
-      go None e f = rw (← e, eqb-zero-suc) f
-      go (Some p) e f = rw (← e, eqb-suc-suc) f
+      rw (d.0, d.1) (head-tested top _ c r (w ∙ chains.linked.head k.0 own) h)
