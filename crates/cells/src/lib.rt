@@ -75,7 +75,7 @@ struct Fields {
 }
 
 // The table of cell kinds: what a record with these fields means. Another record, the control cell's, is looked
-// at only where the kind asks for one.
+// at only where the kind asks for one. The kind is the table's own number, as `table_of` has it: `Cell` is the enum that it is read into.
 fn table(file: &[u8], cells: usize, nets: usize, fields: Fields) -> Option<Cell>
     requires shaped { Shaped file.now }
     requires sized { Sized file.now cells nets }

@@ -30,7 +30,7 @@ pub fn nets_of(file: &[u8], table: &[u16; TABLE], k: Position) -> NetSet
 }
 
 // The set with the control cell of the driver at c besides, if c is one and its control cell is above
-// floor.
+// floor. Held against it by number: with a derived order a wrong `<` in place of `<=` would be refused for a goal's name, and for no fact.
 fn add_control(file: &[u8], c: Position, floor: Position, set: CellSet) -> CellSet
     requires { Whole file.now c.0 }
     ensures { member result.words ≡ with_control (board_of file.now) floor.0 c.0 (member set.words) }

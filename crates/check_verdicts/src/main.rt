@@ -34,7 +34,7 @@ fn answer(rt: &impl Print, file: &[u8]) -> io::Result<()> {
     }
 }
 
-// Reads until the part is full or the input ends, and answers how many bytes.
+// Reads until the part is full or the input ends, and answers how many bytes. No method of `Read` does that in lent memory.
 fn read_full(input: &mut impl Read, part: &mut [u8]) -> io::Result<usize>
     ensures { IfOk result (λ n. n ≤ length part.old) }
 {

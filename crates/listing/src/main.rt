@@ -177,7 +177,7 @@ fn read_from(input: &mut impl Read, file: &mut [u8], from: usize) -> io::Result<
 }
 
 // Reads to the input's end, or until the file is full, and answers how many bytes. A read that fails
-// is not taken for the end.
+// is not taken for the end. No method of `Read` does that in lent memory.
 fn read_input(input: &mut impl Read, file: &mut [u8]) -> io::Result<usize>
     ensures { IfOk result (λ n. n ≤ length file.old) }
 {

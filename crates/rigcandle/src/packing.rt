@@ -21,7 +21,6 @@ fn refusal_bits(refusal: Refusal) -> u64
 }
 
 // What a question answers: the bits of what it returns, or its refusal's.
-#[tactic(auto, unfolding(crate::specs::Asking::answer_bits, rules::specs::Answers::packed, rules::specs::Answers::pack, rules::specs::Refusals::number_of, rules::specs::Refusals::place_of, rules::specs::Refusals::second_of))]
 pub(crate) fn answer_bits(answer: Result<u64, Refusal>) -> u64
     ensures { result ≡ answer_bits answer }
 {

@@ -12,7 +12,8 @@ use Rattle.base.proofs.BoolLaws.{left, right, passes-not}
 use Rattle.base.proofs.TestLaws.{any_none}
 use Rattle.rules.specs.File.{Board, board_of, kind_of, net_of, cells_of, nets_of, limit_of}
 use Rattle.rules.specs.Drivers.{controlled, control_for, is_control, always_on, output_of, drivers}
-use Rattle.rules.specs.Refusals.{Accepted, judge, most_drivers, most_cells, most_nets, most_limit, within, outside, undriven, clash, clashing, crowded, shape_checks, file_checks, net_checks, early_checks}
+use Rattle.rules.specs.Refusals.{Accepted, judge, most_drivers, most_cells, most_nets, most_limit, within, outside, undriven}
+use Rattle.rules.specs.Refusals.{clash, clashing, crowded, shape_checks, file_checks, net_checks, early_checks}
 use Rattle.rules.proofs.DriverLaws.{kept-three, kept-control, kept-net}
 use Rattle.rules.proofs.Verdicts.{all_pass}
 

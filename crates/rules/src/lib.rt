@@ -82,7 +82,8 @@ pub struct Sums {
     pub b: u16,
 }
 
-// A numbered refusal with its two places; the second is 0 where the refusal names one alone.
+// A numbered refusal with its two places; the second is 0 where the refusal names one alone. The number is a number and no enum: it is
+// the documents' name of the refusal, what C reads in bits 0 to 7, and what `judge` and theorems 1, 12 and 13 speak of.
 #[derive(Clone, Copy)]
 pub struct Refusal {
     pub number: u8,

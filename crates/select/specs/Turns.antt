@@ -81,6 +81,10 @@ pub record Holds (b : Board) (on : List ℕ) (turned : Turned) : Type 0 where
 abbrev pub Leads : Board → (List ℕ → List ℕ) → Turned → Turned → Type 0
 Leads b f from to = (on : List ℕ) → Holds b on from → Holds b (f on) to
 
+-- so does a pass over all positions of the file, by these tests
+abbrev pub PassLeads : List ℕ → (ℕ → Bool) → (ℕ → Bool) → Turned → Turned → Type 0
+PassLeads file wanted allowed = Leads (board_of file) (pass_by (board_of file) wanted allowed (cells_of file))
+
 -- an accepted board, and a table with its chains by control cell and its numbers of drivers; what else the table holds is free
 pub record Ready (file t : List ℕ) : Type 0 where
   pub accepted : judge (board_checks file) ≡ Accepted

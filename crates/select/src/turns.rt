@@ -3,7 +3,7 @@ ghost use Rattle.std.specs.Prelude.{◌≡◌, ◌<◌, ◌*◌, length, ℕ, Bo
 ghost use Rattle.rules.specs.File.{Board, board_of, cells_of};
 ghost use Rattle.rules.specs.Drivers.{drives, driver_at};
 ghost use Rattle.words.specs.Sets.{cell_words, member};
-ghost use Rattle.select.specs.Turns.{Callable, Tells, stop_by, turn_to, pass_by, joined, turned_as, Ready, OnBoard, Leads};
+ghost use Rattle.select.specs.Turns.{Callable, Tells, stop_by, turn_to, pass_by, joined, turned_as, Ready, OnBoard, Leads, PassLeads};
 ghost use Rattle.select.specs.Highest.{Order};
 
 use cells::driver_at;
@@ -83,7 +83,7 @@ pub(crate) fn run_pass<F: Fn(usize, Position) -> bool>(
     requires order { Order file.now table.now found }
     requires callable { Callable (F.pre stops) }
     requires on_len { length on.old ≡ cell_words }
-    ensures { (wanted : ℕ → Bool) (allowed : ℕ → Bool) → Tells (F.post stops) wanted allowed → Leads (board_of file.now) (pass_by (board_of file.now) wanted allowed (cells_of file.now)) (turned_as on.old covered) (turned_as on.new result) }
+    ensures { (wanted allowed : ℕ → Bool) → Tells (F.post stops) wanted allowed → PassLeads file.now wanted allowed (turned_as on.old covered) (turned_as on.new result) }
 {
     let mut nets = covered;
     for i in (0..found).rev() {
