@@ -10,7 +10,7 @@ use Rattle.rules.specs.Rows.{row_bytes}
 use Rattle.rules.specs.File.{number_values}
 use Rattle.rules.specs.Refusals.{most_vectors, most_bytes}
 use Rattle.rules.specs.Vectors.{inserted_after, steps_of}
-use Rattle.plan.specs.declared.steps.Plan.{Plan}
+use Rattle.plan.specs.declared.numbers.Plan.{Plan}
 use Rattle.plan.specs.Plans.{bases_for, mix, start_of}
 use Rattle.plan.proofs.MixLaws.{value-at}
 use Rattle.plan.proofs.StepLaws.{size, start-zero, start-next, start-end}

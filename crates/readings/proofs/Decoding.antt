@@ -21,7 +21,7 @@ use Rattle.rules.specs.Refusals.{most_width}
 use Rattle.rules.specs.Vectors.{code_bit, steps_of, vector_of}
 use Rattle.rules.specs.declared.Step.{Step}
 use Rattle.words.specs.Sets.{up_to}
-use Rattle.plan.specs.declared.steps.Plan.{Plan}
+use Rattle.plan.specs.declared.numbers.Plan.{Plan}
 use Rattle.plan.specs.Plans.{bases_for, Small, start_of}
 use Rattle.plan.proofs.StepLaws.{step-base}
 use Rattle.plan.proofs.RoundLaws.{round-below}

@@ -12,7 +12,7 @@ use Rattle.rules.specs.Refusals.{most_vectors}
 use Rattle.rules.specs.Vectors.{inserted_after, steps_of}
 use Rattle.rules.specs.Rows.{row_bit}
 use Rattle.words.specs.Sets.{nothing, unlike}
-use Rattle.plan.specs.declared.steps.Plan.{Plan}
+use Rattle.plan.specs.declared.numbers.Plan.{Plan}
 use Rattle.plan.specs.Plans.{bases_for, mix, Small, start_of}
 use Rattle.plan.proofs.StepLaws.{size}
 use Rattle.readings.specs.Readings.{value_at, period, stray, stray_at, stray_after, stray_in, other_later, lost, Rowed, Left, Part}

@@ -18,7 +18,7 @@ use Rattle.rules.specs.File.{byte_at}
 use Rattle.rules.specs.Refusals.{most_bytes}
 use Rattle.rules.specs.Vectors.{steps_of}
 use Rattle.words.specs.Sets.{net_words}
-use Rattle.plan.specs.declared.steps.Plan.{Plan}
+use Rattle.plan.specs.declared.numbers.Plan.{Plan}
 use Rattle.plan.specs.Plans.{bases_for}
 use Rattle.readings.specs.Readings.{read_below, code_from, lost, Mapped, Entries, Captured, Left, Lent, Read}
 use Rattle.readings.proofs.Decoding.{own-bounded, reads-code}

@@ -21,7 +21,7 @@ use Rattle.rules.specs.Vectors.{code_bit, inserted_after, steps_of, vector_of}
 use Rattle.rules.specs.declared.Step.{Step}
 use Rattle.rules.specs.Rows.{row_bit}
 use Rattle.words.specs.Sets.{unlike}
-use Rattle.plan.specs.declared.steps.Plan.{Plan}
+use Rattle.plan.specs.declared.numbers.Plan.{Plan}
 use Rattle.plan.specs.Plans.{bases_for, mix, Small, start_of}
 use Rattle.plan.proofs.StepLaws.{size, start-zero, step-base, extra-none}
 use Rattle.plan.proofs.RoundLaws as plan

@@ -10,7 +10,7 @@ use Rattle.rules.specs.Refusals.{judge, board_checks, count_checks, most_cells, 
 use Rattle.rules.specs.Vectors.{steps_of, total_of}
 use Rattle.rules.proofs.Verdicts.{all_pass, append-pass}
 use Rattle.chains.proofs.Walks.{cells_fit}
-use Rattle.plan.specs.declared.steps.Plan.{Plan}
+use Rattle.plan.specs.declared.numbers.Plan.{Plan}
 use Rattle.plan.specs.Plans.{bases_for}
 use Rattle.plan.specs.Planning.{PlanOf}
 use Rattle.plan.proofs.PlanningLaws.{small-plan, groups-within, total-is, whole-file}

@@ -20,7 +20,7 @@ use Rattle.rules.specs.Vectors.{Bases, code_width, width_of, steps_of, vector_of
 use Rattle.rules.specs.declared.Step.TheVariants.{Base}
 use Rattle.rules.proofs.Codes.{width-least}
 use Rattle.rules.proofs.Shape.{laid, shaped}
-use Rattle.plan.specs.declared.steps.Plan.{Plan}
+use Rattle.plan.specs.declared.numbers.Plan.{Plan}
 use Rattle.plan.specs.Plans.{bases_for}
 use Rattle.plan.specs.Planning.{PlanOf}
 use Rattle.plan.proofs.WidthLaws.{width-bounded}
