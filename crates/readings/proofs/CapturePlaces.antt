@@ -49,7 +49,7 @@ place_in t vectors bytes l bounded short = omega (arith, place-small t bytes (om
 pub rowed : (p : Plan) (capture : List ℕ) (cells bytes : ℕ) → Captured p capture cells bytes → Rowed p capture bytes
 unfolding row_bytes ceil
 rowed p capture cells bytes k =
-    record { small = k.small; short = (let f = k.cells-bounded in omega (arith, k.bytes-are)); vectors = k.vectors; rows_are = k.rows_are }
+    record { short = (let f = k.cells-bounded in omega (arith, k.bytes-are)); vectors = k.vectors; rows_are = k.rows_are }
 
 module _ (p : Plan) (capture : List ℕ) (bytes : ℕ) (k : Rowed p capture bytes) where
   pub row_inside : (t : ℕ) → t < length (steps_of (bases_for p)) → t * bytes + bytes ≤ length capture

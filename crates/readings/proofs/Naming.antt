@@ -52,7 +52,7 @@ own-lent p capture before coded own cells bytes k z m o =
     entries-within : (c : ℕ) → c < 8 * bytes → get_or own c 0 ≤ 64 * net_words
     entries-within c l =
         ⊎_elim
-        (λ (q : c < cells). rw (o.done c q) (le_trans (own-bounded p.nets (get_or coded c 0)) k.small.nets))
+        (λ (q : c < cells). rw (o.done c q) (le_trans (own-bounded p.nets (get_or coded c 0)) p.small.nets))
         (λ (q : cells ≤ c). let a = z.entries-bounded c (omega (arith, k.bytes-are)) in omega (arith, o.rest c q, m.rest c q))
         (order c cells)
 
