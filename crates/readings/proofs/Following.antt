@@ -12,8 +12,8 @@ use Rattle.rules.specs.Refusals.{most_vectors}
 use Rattle.rules.specs.Vectors.{inserted_after, steps_of}
 use Rattle.rules.specs.Rows.{row_bit}
 use Rattle.words.specs.Sets.{nothing, unlike}
-use Rattle.plan.specs.declared.steps.Plan.{Plan}
-use Rattle.plan.specs.Plans.{bases_for, mix, Small, start_of}
+use Rattle.plan.specs.declared.numbers.Plan.{Plan}
+use Rattle.plan.specs.Plans.{bases_for, mix, start_of}
 use Rattle.plan.proofs.StepLaws.{size}
 use Rattle.readings.specs.Readings.{value_at, period, stray, stray_at, stray_after, stray_in, other_later, lost, Rowed, Left, Part}
 use Rattle.readings.proofs.CapturePlaces.{starts-next, starts-end, part-below, part-value, row_inside}
@@ -143,8 +143,8 @@ pub period-is : (p : Plan) (i t : ℕ) → t ≡ start_of p i → i ≡ p.wide �
 unfolding period
 period-is p i t e h = e ∙ ap (start_of p) h
 
-pub period-bounded : (p : Plan) → Small p → period p ≤ length (steps_of (bases_for p))
+pub period-bounded : (p : Plan) → period p ≤ length (steps_of (bases_for p))
 unfolding period
-period-bounded p s =
-    let m = mul-le-mul_right {m = 1} {n = p.groups} p.wide s.turns in
+period-bounded p =
+    let m = mul-le-mul_right {m = 1} {n = p.groups} p.wide p.small.turns in
     omega (arith, starts-least p p.wide (size p) (omega (arith, one-mul p.wide)), starts-end p (size p) (start_of p (size p)) refl refl)

@@ -18,7 +18,7 @@ use Rattle.rules.specs.File.{byte_at}
 use Rattle.rules.specs.Refusals.{most_bytes}
 use Rattle.rules.specs.Vectors.{steps_of}
 use Rattle.words.specs.Sets.{net_words}
-use Rattle.plan.specs.declared.steps.Plan.{Plan}
+use Rattle.plan.specs.declared.numbers.Plan.{Plan}
 use Rattle.plan.specs.Plans.{bases_for}
 use Rattle.readings.specs.Readings.{read_below, code_from, lost, Mapped, Entries, Captured, Left, Lent, Read}
 use Rattle.readings.proofs.Decoding.{own-bounded, reads-code}
@@ -52,7 +52,7 @@ own-lent p capture before coded own cells bytes k z m o =
     entries-within : (c : ℕ) → c < 8 * bytes → get_or own c 0 ≤ 64 * net_words
     entries-within c l =
         ⊎_elim
-        (λ (q : c < cells). rw (o.done c q) (le_trans (own-bounded p.nets (get_or coded c 0)) k.small.nets))
+        (λ (q : c < cells). rw (o.done c q) (le_trans (own-bounded p.nets (get_or coded c 0)) p.small.nets))
         (λ (q : cells ≤ c). let a = z.entries-bounded c (omega (arith, k.bytes-are)) in omega (arith, o.rest c q, m.rest c q))
         (order c cells)
 

@@ -9,8 +9,8 @@ use Rattle.rules.specs.Refusals.{most_cells, most_vectors, most_bytes, most_widt
 use Rattle.rules.specs.Vectors.{inserted_after, steps_of, vector_of}
 use Rattle.rules.specs.declared.Step.TheVariants.{Base}
 use Rattle.words.specs.Sets.{net_words, unlike}
-use Rattle.plan.specs.declared.steps.Plan.{Plan}
-use Rattle.plan.specs.Plans.{bases_for, Small, start_of}
+use Rattle.plan.specs.declared.numbers.Plan.{Plan}
+use Rattle.plan.specs.Plans.{bases_for, start_of}
 
 -- net n's value in vector t of the plan
 unfoldable pub value_at : Plan → ℕ → ℕ → Bool
@@ -100,7 +100,6 @@ pub record Entries (most cells : ℕ) (table : List ℕ) : Type 0 where
 
 -- a capture of all vectors of a plan, and loose bounds within which no place overflows
 pub record Captured (plan : Plan) (capture : List ℕ) (cells bytes : ℕ) : Type 0 where
-  pub small : Small plan
   pub narrow : plan.wide ≤ most_width
   pub coded : plan.nets + 2 ≤ 2 ^ plan.wide
   pub cells-bounded : cells ≤ most_cells
@@ -110,7 +109,6 @@ pub record Captured (plan : Plan) (capture : List ℕ) (cells bytes : ℕ) : Typ
 
 -- what of this the rows themselves need
 pub record Rowed (plan : Plan) (capture : List ℕ) (bytes : ℕ) : Type 0 where
-  pub small : Small plan
   pub short : bytes ≤ most_bytes
   pub vectors : length (steps_of (bases_for plan)) ≤ most_vectors
   pub rows_are : length capture ≡ length (steps_of (bases_for plan)) * bytes

@@ -7,7 +7,7 @@ pub check_later-requires-clause-later : goal.check_later-requires-clause-later
 check_later-requires-clause-later c =
     let p = c.requires.rowed in
     let v = p.vectors in
-    let l = period-bounded _ p.small in
+    let l = period-bounded c.args.plan in
     let e = c.total-vectors.ensures in
     record {
       short = p.short;

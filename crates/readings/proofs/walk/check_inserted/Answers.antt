@@ -13,8 +13,8 @@ loop-k-init c =
 pub overflow_mul-k : goal.overflow_mul-k
 overflow_mul-k c =
     let e = c.requires.part.extra-is in
-    let l = extra-bounded _ c.requires.rowed.small c.args.span.i in
-    let m = changed-bounded _ (c.loop-k.k + 1) c.requires.rowed.small (omega arith) in
+    let l = extra-bounded c.args.plan c.args.span.i in
+    let m = changed-bounded c.args.plan (c.loop-k.k + 1) (omega arith) in
     omega arith
 
 pub overflow_add-t : goal.overflow_add-t
