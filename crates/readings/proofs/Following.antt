@@ -115,11 +115,8 @@ module _ (p : Plan) (capture : List ℕ) (bytes : ℕ) (w : Rowed p capture byte
       let e : i + 1 ≡ suc i = omega arith in
       omega (arith, ap (start_of p) e)
 
-  pub next_row : (k : ℕ) → k ≤ extra → ((t + k + 1) * bytes + bytes ≤ length capture) × (t + k ≤ most_vectors)
-  next_row k l =
-      let b = last-below in
-      let v = w.vectors in
-      (row_inside p capture bytes w (t + k + 1) (omega arith), omega arith)
+  pub next-below-all : (k : ℕ) → k ≤ extra → t + k + 1 < length (steps_of (bases_for p))
+  next-below-all k l = let b = last-below in omega arith
 
   -- and the values that their nets have
   pub values-first : (old : ℕ → Bool) → old ≡ (bases_for p).value i → old ≡ value_at p (t + 0)

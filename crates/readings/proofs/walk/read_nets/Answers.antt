@@ -7,7 +7,7 @@ use Rattle.rules.specs.Refusals.{most_bytes}
 use Rattle.readings.proofs.CapturePlaces.{rowed}
 use Rattle.readings.proofs.MappedLaws.{entries_below}
 use Rattle.readings.proofs.Decoding.{captured}
-use Rattle.readings.proofs.Naming.{own-lent, all_read}
+use Rattle.readings.proofs.Naming.{own_entries, all_read}
 use Rattle.readings.proofs.walk.read_nets.Goals as goal
 
 -- the cells are among the bits of their row
@@ -21,10 +21,10 @@ read_codes-requires-clause-entries c = entries_below _ _ _ _ c.requires.entries 
 pub own_codes-requires : goal.own_codes-requires
 own_codes-requires c = let l = c.requires.entries.long in omega (arith, cells_in c.args.cells, c.read_codes.ensures.long)
 
-pub check_all-requires : goal.check_all-requires
-check_all-requires c =
+pub invariant_of-walk : goal.invariant_of-walk
+invariant_of-walk c =
     let k = captured _ _ _ _ c.requires.captured c.row_bytes-bytes.ensures in
-    record { rowed = rowed _ _ _ _ k; lent = own-lent _ _ _ _ _ _ _ k c.requires.entries c.read_codes.ensures c.own_codes.ensures }
+    record { rowed = rowed _ _ _ _ k; entries = own_entries _ _ _ _ _ _ _ k c.requires.entries c.read_codes.ensures c.own_codes.ensures }
 
 pub clear-requires : goal.clear-requires
 unfolding row_bytes ceil
