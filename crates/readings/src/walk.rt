@@ -42,11 +42,17 @@ impl Walk<'_> {
         requires u_in_bounds { u < length (steps_of (bases_for self.now.plan)) }
         ensures { Left (stray_at self.now.capture.now (t * self.now.bytes) (u * self.now.bytes) (member changing.words) self.now.table.now) left.old (8 * self.now.bytes) left.new }
     {
-        let at = t * self.bytes;
-        let other = u * self.bytes;
-        for j in 0..self.bytes {
-            let unlike = self.capture[at + j] ^ self.capture[other + j];
-            sift_byte(left, j, unlike, &self.table[8 * j..], changing);
+        let Walk {
+            capture,
+            bytes,
+            table,
+            ..
+        } = *self;
+        let at = t * bytes;
+        let other = u * bytes;
+        for j in 0..bytes {
+            let unlike = capture[at + j] ^ capture[other + j];
+            sift_byte(left, j, unlike, &table[8 * j..], changing);
         }
     }
 
