@@ -8,7 +8,7 @@ use native.Mathlib.Nat.{le_trans}
 use native.Mathlib.Omega.{arith}
 use borrow.Author.Tests.{eqb-true, eq-eqb, le-ltb}
 use lib.Dec.{ltb, eqb}
-use lib.ListN.{length, get_or, replicate, length-replicate}
+use lib.ListN.{length, get_or, replicate}
 use Rattle.std.proofs.lemmas.List.{get_or-replicate}
 use Rattle.base.specs.Digits.{bit, ceil, word}
 use Rattle.base.proofs.DigitLaws.{bit_word}

@@ -8,7 +8,7 @@ use Rattle.rules.specs.File.{most_number}
 use Rattle.rules.specs.Refusals.{most_cells, most_vectors, most_bytes, most_width}
 use Rattle.rules.specs.Vectors.{inserted_after, steps_of, vector_of}
 use Rattle.rules.specs.declared.Step.TheVariants.{Base}
-use Rattle.words.specs.Sets.{net_words, unlike}
+use Rattle.words.specs.Sets.{unlike}
 use Rattle.plan.specs.declared.steps.Plan.{Plan}
 use Rattle.plan.specs.Plans.{bases_for, Small, start_of}
 

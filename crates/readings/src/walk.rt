@@ -42,6 +42,7 @@ impl Walk<'_> {
         requires u_in_bounds { u < length (steps_of (bases_for self.now.plan)) }
         ensures { Left (stray_at self.now.capture.now (t * self.now.bytes) (u * self.now.bytes) (member changing.words) self.now.table.now) left.old (8 * self.now.bytes) left.new }
     {
+        // Read once. `self.bytes` and the others in each round: tried, and the marks of bus took 1,488,378 instructions instead of 1,114,304.
         let Walk {
             capture,
             bytes,
@@ -108,12 +109,11 @@ impl Walk<'_> {
     }
 
     // The cells that are left after the later groups: each vector is held against the one a group earlier.
-    fn check_later(&self, first: usize, vectors: usize, left: &mut [u8; MOST_BYTES])
-        requires { vectors ≡ length (steps_of (bases_for self.now.plan)) }
-        ensures { Left (λ c. any (vectors - first) (other_later first self.now.bytes self.now.capture.now c)) left.old (8 * self.now.bytes) left.new }
+    fn check_later(&self, first: usize, left: &mut [u8; MOST_BYTES])
+        ensures { Left (λ c. any (length (steps_of (bases_for self.now.plan)) - first) (other_later first self.now.bytes self.now.capture.now c)) left.old (8 * self.now.bytes) left.new }
     {
         let none = NetSet::empty();
-        for u in 0..vectors.saturating_sub(first) {
+        for u in 0..total(self.plan).saturating_sub(first) {
             self.check_rows(first + u, u, none, left);
         }
     }
@@ -122,9 +122,8 @@ impl Walk<'_> {
     fn check_all(&self, left: &mut [u8; MOST_BYTES])
         ensures { Left (lost self.now.plan self.now.bytes self.now.capture.now self.now.table.now) left.old (8 * self.now.bytes) left.new }
     {
-        let vectors = total(self.plan);
         let first = self.check_first(left);
-        self.check_later(first, vectors, left);
+        self.check_later(first, left);
     }
 }
 

@@ -1,9 +1,9 @@
--- Where the vectors of the part stand (next-below-all), and the values that their nets have (values-first, values-next, values-last).
+-- Where the vectors of the part stand (later_below), and the values that their nets have (values-first, values-next, values-last).
 use Rattle.std.proofs.Common.{◌+◌, refl, arith}
 use Rattle.plan.proofs.MixLaws.{changed-bounded}
 use Rattle.plan.proofs.StepLaws.{extra-bounded}
 use Rattle.readings.proofs.LeftLaws.{left-zero}
-use Rattle.readings.proofs.Following.{left-next, left-last, next-below-all, values-first, values-next, values-last, values-on}
+use Rattle.readings.proofs.Following.{left-next, left-last, later_below, values-first, values-next, values-last, values-on}
 use Rattle.readings.proofs.walk.Walk.check_inserted.Goals as goal
 
 pub loop-k-init : goal.loop-k-init
@@ -18,10 +18,10 @@ overflow_mul-k c =
     omega arith
 
 pub overflow_add-span-in-loop-k : goal.overflow_add-span-in-loop-k
-overflow_add-span-in-loop-k c = let r = next-below-all _ _ _ c.args.self.now.rowed _ _ _ c.requires.part c.requires.extra_nonzero c.loop-k.k (omega arith) in omega arith
+overflow_add-span-in-loop-k c = let r = later_below _ _ _ c.args.self.now.rowed _ _ _ c.requires.part c.requires.extra_nonzero c.loop-k.k (omega arith) in omega arith
 
 pub check_next-requires : goal.check_next-requires
-check_next-requires c = next-below-all _ _ _ c.args.self.now.rowed _ _ _ c.requires.part c.requires.extra_nonzero c.loop-k.k (omega arith)
+check_next-requires c = later_below _ _ _ c.args.self.now.rowed _ _ _ c.requires.part c.requires.extra_nonzero c.loop-k.k (omega arith)
 
 pub loop-k-preserved : goal.loop-k-preserved
 loop-k-preserved c =
@@ -32,10 +32,10 @@ loop-k-preserved c =
     record { still_left = left-next _ _ _ _ _ _ _ _ _ refl inv.now next inv.still_left c.check_next.ensures; now = values-on _ _ _ _ next }
 
 pub overflow_add-span-2 : goal.overflow_add-span-2
-overflow_add-span-2 c = let r = next-below-all _ _ _ c.args.self.now.rowed _ _ _ c.requires.part c.requires.extra_nonzero c.args.span.extra (omega arith) in omega arith
+overflow_add-span-2 c = let r = later_below _ _ _ c.args.self.now.rowed _ _ _ c.requires.part c.requires.extra_nonzero c.args.span.extra (omega arith) in omega arith
 
 pub check_next-requires-2 : goal.check_next-requires-2
-check_next-requires-2 c = next-below-all _ _ _ c.args.self.now.rowed _ _ _ c.requires.part c.requires.extra_nonzero c.args.span.extra (omega arith)
+check_next-requires-2 c = later_below _ _ _ c.args.self.now.rowed _ _ _ c.requires.part c.requires.extra_nonzero c.args.span.extra (omega arith)
 
 pub returns : goal.returns
 returns c =
