@@ -16,7 +16,8 @@ use rows::bytes::row_bytes;
 use rules::{MOST_BYTES, Position};
 use words::NetSet;
 
-// What the walk over a capture goes by: a row of so many bytes for each vector of the plan, and an entry for each bit of a row.
+// What the walk over a capture goes by: a row of so many bytes for each vector of the plan, and an entry for each bit of a row. The cells
+// that are left are no field: the walk writes them and reads the rest, and their type says how many bytes they take.
 #[derive(Clone, Copy)]
 struct Walk<'a> {
     capture: &'a [u8],
@@ -27,7 +28,8 @@ struct Walk<'a> {
     ghost entries: { Entries (64 * net_words) (8 * bytes) table.now },
 }
 
-// Part i of the plan: how many vectors are inserted after base vector i, and the vector at which the part begins.
+// Part i of the plan: how many vectors are inserted after base vector i, and the vector at which the part begins. That it is so, `Part`,
+// is said of a plan, which is the walk's: so it stands in the clauses of the two functions that take a part.
 #[derive(Clone, Copy)]
 struct Span {
     i: usize,
@@ -42,7 +44,8 @@ impl Walk<'_> {
         requires u_in_bounds { u < length (steps_of (bases_for self.now.plan)) }
         ensures { Left (stray_at self.now.capture.now (t * self.now.bytes) (u * self.now.bytes) (member changing.words) self.now.table.now) left.old (8 * self.now.bytes) left.new }
     {
-        // Read once. `self.bytes` and the others in each round: tried, and the marks of bus took 1,488,378 instructions instead of 1,114,304.
+        // Read once: with `self.bytes` and the others in each round, which was tried, marks took a third more instructions on the board bus
+        // (1,488,378, not 1,114,304).
         let Walk {
             capture,
             bytes,
