@@ -8,7 +8,7 @@ use Rattle.rules.specs.File.{most_number}
 use Rattle.rules.specs.Refusals.{most_cells, most_vectors, most_bytes, most_width}
 use Rattle.rules.specs.Vectors.{inserted_after, steps_of, vector_of}
 use Rattle.rules.specs.declared.Step.TheVariants.{Base}
-use Rattle.words.specs.Sets.{net_words, unlike}
+use Rattle.words.specs.Sets.{unlike}
 use Rattle.plan.specs.declared.numbers.Plan.{Plan}
 use Rattle.plan.specs.Plans.{bases_for, start_of}
 
@@ -112,18 +112,6 @@ pub record Rowed (plan : Plan) (capture : List ℕ) (bytes : ℕ) : Type 0 where
   pub short : bytes ≤ most_bytes
   pub vectors : length (steps_of (bases_for plan)) ≤ most_vectors
   pub rows_are : length capture ≡ length (steps_of (bases_for plan)) * bytes
-
--- a capture of so many vectors, the first group of which ends at `first`
-pub record Later (capture : List ℕ) (first vectors bytes : ℕ) : Type 0 where
-  pub short : bytes ≤ most_bytes
-  pub vectors-bounded : vectors ≤ most_vectors
-  pub ends : first ≤ most_vectors
-  pub rows_are : length capture ≡ vectors * bytes
-
--- entries for the bits of so many bytes, none above the number of nets, and as many bytes for the cells that are left
-pub record Lent (bytes : ℕ) (table left : List ℕ) : Type 0 where
-  pub entries : Entries (64 * net_words) (8 * bytes) table
-  pub room : bytes ≤ length left
 
 -- part i of the plan begins at vector t, and has so many vectors after its base vector
 pub record Part (plan : Plan) (i extra t : ℕ) : Type 0 where
