@@ -13,8 +13,8 @@ loop-k-init c =
 pub overflow_mul-k : goal.overflow_mul-k
 overflow_mul-k c =
     let e = c.requires.part.extra-is in
-    let l = extra-bounded _ c.args.self.now.rowed.small c.args.span.i in
-    let m = changed-bounded _ (c.loop-k.k + 1) c.args.self.now.rowed.small (omega arith) in
+    let l = extra-bounded c.args.self.now.plan c.args.span.i in
+    let m = changed-bounded c.args.self.now.plan (c.loop-k.k + 1) (omega arith) in
     omega arith
 
 pub overflow_add-span-in-loop-k : goal.overflow_add-span-in-loop-k
