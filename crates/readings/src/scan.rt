@@ -9,7 +9,7 @@ ghost use Rattle.readings.specs.Readings.{stray, staying, Entries};
 use rules::{Net, Position};
 use words::NetSet;
 
-// Digit i of a byte, from the least.
+// Digit i of a byte, from the least. `words::loops::has` has the same of a word in a list; one trait for both would be longer than the two.
 fn digit_at(byte: u8, i: usize) -> bool
     requires { i < 8 }
     ensures { result ≡ bit byte i }
