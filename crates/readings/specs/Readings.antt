@@ -46,6 +46,10 @@ staying left unlike changing entries i = bit left i && not (bit unlike i && stra
 unfoldable pub stray_at : List ℕ → ℕ → ℕ → (ℕ → Bool) → List ℕ → ℕ → Bool
 stray_at capture at other changing table c = xor (row_bit capture at c) (row_bit capture other c) && stray changing (get_or table c 0)
 
+-- so it does between vectors t and u of rows of so many bytes
+abbrev pub stray_rows : List ℕ → ℕ → List ℕ → ℕ → ℕ → (ℕ → Bool) → ℕ → Bool
+stray_rows capture bytes table t u changing = stray_at capture (t * bytes) (u * bytes) changing table
+
 -- the cell at c changes its reading after vector t, and its entry's net does not change there
 unfoldable pub stray_after : Plan → ℕ → List ℕ → List ℕ → ℕ → ℕ → Bool
 stray_after plan bytes capture table c t =

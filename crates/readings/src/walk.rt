@@ -6,7 +6,7 @@ ghost use Rattle.rules.specs.Rows.{row_bytes, row_bit};
 ghost use Rattle.rules.specs.Vectors.{steps_of};
 ghost use Rattle.words.specs.Sets.{net_words, member, unlike};
 ghost use Rattle.plan.specs.Plans.{bases_for};
-ghost use Rattle.readings.specs.Readings.{period, stray_at, stray_after, stray_in, other_later, lost, Mapped, Entries, Left, Scanned, Captured, Rowed, Part, Read};
+ghost use Rattle.readings.specs.Readings.{period, stray_rows, stray_after, stray_in, other_later, lost, Mapped, Entries, Left, Scanned, Captured, Rowed, Part, Read};
 
 use crate::codes::{map_entries, own_codes, read_codes};
 use crate::scan::{seen, sift_byte};
@@ -42,7 +42,7 @@ impl Walk<'_> {
     fn check_rows(&self, t: usize, u: usize, changing: NetSet, left: &mut [u8; MOST_BYTES])
         requires t_in_bounds { t < length (steps_of (bases_for self.now.plan)) }
         requires u_in_bounds { u < length (steps_of (bases_for self.now.plan)) }
-        ensures { Left (stray_at self.now.capture.now (t * self.now.bytes) (u * self.now.bytes) (member changing.words) self.now.table.now) left.old (8 * self.now.bytes) left.new }
+        ensures { Left (stray_rows self.now.capture.now self.now.bytes self.now.table.now t u (member changing.words)) left.old (8 * self.now.bytes) left.new }
     {
         // Read once: with `self.bytes` and the others in each round, which was tried, marks took a third more instructions on the board bus
         // (1,488,378, not 1,114,304).
@@ -63,7 +63,7 @@ impl Walk<'_> {
     // The cells that are left after vector t and the next, whose nets have these values.
     fn check_next(&self, t: usize, before: NetSet, after: NetSet, left: &mut [u8; MOST_BYTES])
         requires { t + 1 < length (steps_of (bases_for self.now.plan)) }
-        ensures { Left (stray_at self.now.capture.now (t * self.now.bytes) ((t + 1) * self.now.bytes) (unlike (member before.words) (member after.words)) self.now.table.now) left.old (8 * self.now.bytes) left.new }
+        ensures { Left (stray_rows self.now.capture.now self.now.bytes self.now.table.now t (t + 1) (unlike (member before.words) (member after.words))) left.old (8 * self.now.bytes) left.new }
     {
         self.check_rows(t, t + 1, before.flip(after), left);
     }
