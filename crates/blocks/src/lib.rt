@@ -64,7 +64,7 @@ fn sums(bytes: &[u8]) -> Sums
     Sums { a, b }
 }
 
-// Block i holds its own two sums.
+// Block i holds its own two sums. By number: an edit of a derived `==` would be refused for a name.
 #[tactic(auto, unfolding(rules::specs::File::sums_right, rules::specs::File::block_at))]
 fn sums_right(file: &[u8], i: usize) -> bool
     requires { block_size * (i + 1) ≤ length file.now }

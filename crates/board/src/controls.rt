@@ -56,7 +56,7 @@ fn crosser_of(file: &[u8], table: &[u16; TABLE], cells: usize, i: Position) -> O
     None
 }
 
-// Refusal 10: the lowest control cell that crosses a higher one, and the first of these.
+// Refusal 10: the lowest control cell that crosses a higher one, and the first of these. Not `rules::each`: it says two places.
 fn crossed_verdict(file: &[u8], table: &[u16; TABLE], cells: usize) -> Verdict
     requires filled { Filled file.now table.now }
     requires cells_value { cells ≡ cells_of file.now }

@@ -170,7 +170,8 @@ pub fn cell_at(file: &[u8], p: Position) -> Cell
     plain_record(file, p).unwrap_or(Cell::Internal)
 }
 
-// The net at position p of a whole file, or 65,535: what a walk along drivers needs of their records.
+// The net at position p of a whole file, or 65,535: what a walk along drivers needs of their records. No Option: it is asked of outputs,
+// which have a net, and 65,535 is the record's own number, as `net_of` has it.
 pub fn net_at(file: &[u8], p: Position) -> Net
     requires { Whole file.now p.0 }
     ensures { result.0 ≡ net_of ((board_of file.now).cell p.0) }

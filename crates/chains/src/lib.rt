@@ -34,7 +34,8 @@ fn held(table: &[u16; TABLE], i: usize) -> u16
     table[i]
 }
 
-// The position that the entry of a head or a link names, if it names one: it is 1 + the position.
+// The position that the entry of a head or a link names, if it names one: it is 1 + the position. An entry stays a number of two bytes,
+// since the table is lent, of fixed size, and holds nothing where it is zero.
 pub fn named(entry: u16) -> Option<Position>
     ensures { entry_of result ≡ entry }
 {
@@ -53,7 +54,8 @@ pub fn head(table: &[u16; TABLE], k: Position) -> Option<Position>
     named(held(table, LINKS + (MOST_CELLS + k.0 as usize)))
 }
 
-// The next lower driver of the same control cell as the driver at c.
+// The next lower driver of the same control cell as the driver at c. A walk is a `while let` and no iterator: that it ends is proved at each
+// link (`walk-falls`), and an `Iterator` would have to carry the file and its chains for that.
 pub fn link(table: &[u16; TABLE], c: Position) -> Option<Position>
     requires { c.0 < most_cells }
     ensures { entry_of result ≡ link_in ControlCell table.now c.0 }

@@ -33,9 +33,7 @@ fn say(rt: &impl Print, n: usize) -> io::Result<()> {
 }
 
 // A line: N, p, G, SSOL and total.
-fn say_total(rt: &impl Print, plan: Plan) -> io::Result<()>
-    requires { Small plan }
-{
+fn say_total(rt: &impl Print, plan: Plan) -> io::Result<()> {
     say(rt, plan.nets)?;
     say(rt, plan.wide)?;
     say(rt, plan.groups)?;
@@ -66,8 +64,7 @@ fn say_values(rt: &impl Print, set: NetSet, nets: usize) -> io::Result<()>
 
 // A line: the group of vector t, and its net values.
 fn say_vector(rt: &impl Print, plan: Plan, t: usize) -> io::Result<()>
-    requires small { Small plan }
-    requires t_in_bounds { t < length (steps_of (bases_for plan)) }
+    requires { t < length (steps_of (bases_for plan)) }
 {
     let step = step_at(plan, t);
     say(rt, group_of(plan, step))?;
@@ -76,9 +73,7 @@ fn say_vector(rt: &impl Print, plan: Plan, t: usize) -> io::Result<()>
 }
 
 // Every vector, a line each.
-fn say_vectors(rt: &impl Print, plan: Plan) -> io::Result<()>
-    requires { Small plan }
-{
+fn say_vectors(rt: &impl Print, plan: Plan) -> io::Result<()> {
     for t in 0..total(plan) {
         say_vector(rt, plan, t)?;
     }

@@ -32,7 +32,7 @@ const ROW: usize = rules::MOST_BYTES;
 // newline.
 const LINE: usize = 2 * 21 + 2 * ROW + 1;
 
-// A capital hex digit.
+// A capital hex digit. The library has none as a byte.
 fn hex_digit(n: u8) -> u8
     requires { n ≤ 15 }
 {
@@ -48,9 +48,7 @@ fn put(line: &mut [u8], at: usize, text: &[u8]) -> usize
     ensures value { result ≡ at + length text.now }
     ensures line_after { line.new ≡ paste line.old at text.now (length text.now) }
 {
-    for i in 0..text.len() {
-        line[at + i] = text[i];
-    }
+    line[at..at + text.len()].copy_from_slice(text);
     at + text.len()
 }
 
@@ -80,8 +78,8 @@ fn put_row(line: &mut [u8], at: usize, row: &[u8]) -> usize
     ensures { result ≡ at + 2 * length row.now }
 {
     let mut next = at;
-    for j in 0..row.len() {
-        next = put_byte(line, next, row[j]);
+    for byte in row {
+        next = put_byte(line, next, *byte);
     }
     next
 }

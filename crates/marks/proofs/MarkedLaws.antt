@@ -1,15 +1,18 @@
 -- Laws of marks that are written and counted one by one: the marks of n nets and one more are those of n + 1.
 use Prim.Native.Nat.{ℕ, ◌+◌, ◌<◌, ◌≤◌}
 use mathlib.Core.Path.{◌≡◌, refl, sym, ◌∙◌, ap}
-use mathlib.Core.Bool.{Bool}
+use mathlib.Core.Bool.{Bool, not}
 use mathlib.Core.List.{List, [], ◌∷◌, ◌++◌}
 use native.Mathlib.Numerals.{add-one}
 use native.Mathlib.Omega.{arith}
+use borrow.Author.Tests.{ltb-true, lt-ltb, eqb-false, ne_eqb}
+use lib.Dec.{ltb}
 use lib.ListN.{length, set, take, drop, length-append, length-drop}
 use Rattle.std.proofs.lemmas.List.{append-nil, drop_all, length-take-le}
 use lib.Seq.{append_snoc, set_split}
 use Rattle.base.specs.Tests.{digit}
 use Rattle.base.specs.Lists.{table}
+use Rattle.base.proofs.BoolLaws.{left, right, both, not-fails, fails-not, same_test}
 use Rattle.base.proofs.DigitLaws.{digit-bounded}
 use Rattle.base.proofs.ListLaws.{length-table, table_same}
 use Rattle.rules.specs.File.{Board}
@@ -21,6 +24,26 @@ use Rattle.rows.proofs.PlacedLaws.{over-more}
 use Rattle.marks.specs.Judging.{seen_by, mark_by, marks_by, Tested, mark_in, marks_in, counts_of, one_more, CountsBounded, Marked, Counted}
 use Rattle.marks.specs.declared.Tests.{Tests}
 use Rattle.marks.specs.declared.Counts.{Counts}
+
+-- a byte over 1 is neither pass nor fail
+unsure-is : (byte : ℕ) → ltb 1 byte ≡ is_unsure byte
+unsure-is byte =
+    same_test _ _
+    (λ t. let l = ltb-true 1 byte t in both (not-fails (ne_eqb byte 0 (λ e. omega arith))) (not-fails (ne_eqb byte 1 (λ e. omega arith))))
+    (λ t.
+    let p = eqb-false byte 0 (fails-not _ (left (not (is_pass byte)) _ t)) in
+    let f = eqb-false byte 1 (fails-not _ (right (not (is_pass byte)) t)) in
+    lt-ltb 1 byte (omega arith))
+
+-- one mark byte more, by the digits of its three tests
+pub one_more-counted :
+    (counts : Counts) (byte p f u : ℕ) →
+    p ≡ digit (is_pass byte) →
+    f ≡ digit (is_fail byte) →
+    u ≡ digit (ltb 1 byte) →
+    record { pass = counts.pass + p; fail = counts.fail + f; unsure = counts.unsure + u } ≡ one_more counts byte
+unfolding one_more
+one_more-counted counts byte p f u passes fails neither = rw (passes, fails, neither, unsure-is)
 
 -- bytes that pass a test: one more, and no more than there are
 bytes-more : (test : ℕ → Bool) (bytes : List ℕ) (byte : ℕ) → bytes_that test (bytes ++ (byte ∷ [])) ≡ bytes_that test bytes + digit (test byte)

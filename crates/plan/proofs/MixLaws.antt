@@ -17,8 +17,8 @@ use Rattle.rules.specs.Vectors.{differs, inserted_after, between, steps_of, vect
 use Rattle.rules.specs.declared.Step.{Step}
 use Rattle.rules.specs.declared.Step.TheVariants.{Base, Inserted}
 use Rattle.words.specs.Sets.{net_words, unlike}
-use Rattle.plan.specs.declared.steps.Plan.{Plan}
-use Rattle.plan.specs.Plans.{bases_for, mix, Small, Within, start_of}
+use Rattle.plan.specs.declared.numbers.Plan.{Plan}
+use Rattle.plan.specs.Plans.{bases_for, mix, Within, start_of}
 use Rattle.plan.proofs.StepLaws.{size, extra-bounded, step-base, step-inserted}
 
 -- a net that differs and changes sides has its new value, another keeps its old
@@ -50,8 +50,8 @@ unfolding mix among
 mix-none old new = fun_ext (λ m. rw (le-ltb (count m (unlike old new)) 0 (omega arith), and-false (unlike old new m)))
 
 -- the nets that have changed sides are a small number
-pub changed-bounded : (p : Plan) (k : ℕ) → Small p → k ≤ 64 * net_words → k * p.limit ≤ 64 * net_words * most_number
-changed-bounded p k s l = le_trans (mul-le-mul_right p.limit l) (mul-le-mul_left (64 * net_words) s.limit-bounded)
+pub changed-bounded : (p : Plan) (k : ℕ) → k ≤ 64 * net_words → k * p.limit ≤ 64 * net_words * most_number
+changed-bounded p k l = le_trans (mul-le-mul_right p.limit l) (mul-le-mul_left (64 * net_words) p.small.limit-bounded)
 
 -- the group of base vector i, which those inserted after it have too
 pub group-is : (p : Plan) (i : ℕ) (step : Step) → (step ≡ Base i) ⊎ ((t : ℕ) × (step ≡ Inserted i t)) → 1 + i / p.wide ≡ (vector_of (bases_for p) step).group
@@ -59,15 +59,15 @@ unfolding vector_of bases_for
 group-is p i step h = ⊎_elim (λ (e : step ≡ Base i). rw e (omega arith)) (λ (r : (t : ℕ) × (step ≡ Inserted i t)). rw r.1 (omega arith)) h
 
 -- every step of a plan stands within it
-pub steps-within : (p : Plan) → Small p → (t : ℕ) → t < length (steps_of (bases_for p)) → Within p (get_or (steps_of (bases_for p)) t (Base 0))
+pub steps-within : (p : Plan) → (t : ℕ) → t < length (steps_of (bases_for p)) → Within p (get_or (steps_of (bases_for p)) t (Base 0))
 unfolding steps_of bases_for between
-steps-within p s =
+steps-within p =
     weave-each Base (between (bases_for p)) (p.groups * p.wide) (Base 0) (Within p)
     (λ b l. l)
     (λ b l k h. inside b l k (rw (length-table (inserted_after (bases_for p) b) (λ t. Inserted b (t + 1))) at h))
   where
     inside : (b : ℕ) → b < p.groups * p.wide → (k : ℕ) → k < inserted_after (bases_for p) b → Within p (get_or (table (inserted_after (bases_for p) b) (λ t. Inserted b (t + 1))) k (Base 0))
-    inside b l k h = rw (table_at (inserted_after (bases_for p) b) (λ t. Inserted b (t + 1)) (Base 0) h) (l, let e = extra-bounded p s b in omega arith)
+    inside b l k h = rw (table_at (inserted_after (bases_for p) b) (λ t. Inserted b (t + 1)) (Base 0) h) (l, let e = extra-bounded p b in omega arith)
 
 -- the values of the k-th vector of part i, the base vector being the 0th
 pub value-at :

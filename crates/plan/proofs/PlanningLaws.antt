@@ -1,4 +1,4 @@
--- A board's plan: its base vectors are the board's, and its numbers are small where the board is accepted.
+-- A board's plan: its base vectors are the board's, and the board's numbers may be a plan's where the board is accepted.
 use Prim.Native.Nat.{ℕ, zero, suc, ◌<◌, ◌≤◌}
 use mathlib.Core.Path.{◌≡◌, refl, ◌∙◌, ap}
 use mathlib.Core.List.{List, [], ◌∷◌}
@@ -17,34 +17,15 @@ use Rattle.rules.proofs.Selection.{sound}
 use Rattle.rules.proofs.Shape.{laid, shaped}
 use Rattle.rules.proofs.Verdicts.{Then, then_append, append-pass, all_pass, accepted}
 use Rattle.words.specs.Sets.{up_to}
-use Rattle.plan.specs.declared.steps.Plan.{Plan}
-use Rattle.plan.specs.Plans.{bases_for, most_patterns, Small}
+use Rattle.plan.specs.declared.numbers.Plan.{Plan}
+use Rattle.plan.specs.Bounds.{Bounded}
+use Rattle.plan.specs.Plans.{bases_for}
 use Rattle.plan.specs.Planning.{PlanOf}
 use Rattle.plan.proofs.WidthLaws.{width_positive, width-bounded}
 
--- the plan that the board's numbers make
-own-plan : Board → Plan
-own-plan b = record { nets = b.nets; wide = width_of b; groups = groups_of b; limit = b.limit }
-
-own-bases : (b : Board) → bases_for (own-plan b) ≡ bases_of b
-unfolding own-plan bases_for bases_of up_to pattern_of
-own-bases b = refl
-
-plan-same : (b : Board) (p : Plan) → PlanOf b p → p ≡ own-plan b
-unfolding own-plan
-plan-same b p h = go p.nets p.wide p.groups p.limit h.nets-are h.wide-are h.groups-are h.limit-are
-  where
-    go :
-        (n w g l : ℕ) →
-        n ≡ b.nets →
-        w ≡ width_of b →
-        g ≡ groups_of b →
-        l ≡ b.limit →
-        ◌≡◌ {A = Plan} (record { nets = n; wide = w; groups = g; limit = l }) (record { nets = b.nets; wide = width_of b; groups = groups_of b; limit = b.limit })
-    go n w g l e f x y = rw (e, f, x, y)
-
 pub bases-are : (b : Board) (p : Plan) → PlanOf b p → bases_for p ≡ bases_of b
-bases-are b p h = ap bases_for (plan-same b p h) ∙ own-bases b
+unfolding bases_for bases_of up_to pattern_of
+bases-are b p h = rw (h.nets-are, h.wide-are, h.groups-are, h.limit-are) refl
 
 pub total-is : (b : Board) (p : Plan) → PlanOf b p → length (steps_of (bases_for p)) ≡ total_of b
 unfolding total_of plan_of
@@ -56,25 +37,9 @@ unfolding largest
 largest-bounded zero m f h = omega arith
 largest-bounded (suc n) m f h = let a = largest-bounded n m f (λ i l. h i (omega arith)) in let d = h n (omega arith) in omega arith
 
-board-nets : (file : List ℕ) → (board_of file).nets ≡ nets_of file
-unfolding board_of
-board-nets file = refl
-
-board-limit : (file : List ℕ) → (board_of file).limit ≡ limit_of file
-unfolding board_of
-board-limit file = refl
-
 groups-positive : (b : Board) → 1 ≤ groups_of b
 unfolding groups_of
 groups-positive b = omega arith
-
-wide-positive : (b : Board) → 1 ≤ width_of b
-unfolding width_of
-wide-positive b = width_positive b.nets
-
-wide-bounded : (b : Board) (p : Plan) → PlanOf b p → p.nets ≤ most_nets → p.wide ≤ most_patterns
-unfolding width_of
-wide-bounded b p h n = let e = h.nets-are in let w = width-bounded most_width b.nets (omega arith) in let f = h.wide-are in omega arith
 
 module _ (file : List ℕ) (ok : judge (board_checks file) ≡ Accepted) where
   pub groups-within : groups_of (board_of file) ≤ most_drivers
@@ -90,19 +55,20 @@ module _ (file : List ℕ) (ok : judge (board_checks file) ≡ Accepted) where
   whole-file =
       accepted (file_checks file) (append-pass (file_checks file) _ (append-pass (early_checks file) _ (all_pass (board_checks file) ok)).0).0
 
-  pub small-plan : (p : Plan) → PlanOf (board_of file) p → Small p
-  small-plan p h =
+  -- so the board's own four numbers may be a plan's
+  pub numbers-bounded :
+      (n p g ssol : ℕ) → n ≡ nets_of file → p ≡ code_width n → g ≡ groups_of (board_of file) → ssol ≡ limit_of file → Bounded n p g ssol
+  numbers-bounded n p g ssol n-is p-is g-is ssol-is =
       let l = laid file (shaped file whole-file) in
-      let n : p.nets ≤ most_nets = (let e = h.nets-are ∙ board-nets file in let f = l.nets.at_most in omega arith) in
-      let limit : (0 < p.limit) × (p.limit ≤ most_limit) = (let e = h.limit-are ∙ board-limit file in let f = l.limit.positive in let g = l.limit.at_most in (omega arith, omega arith)) in
-      let g : p.groups ≤ most_drivers = rw h.groups-are groups-within in
-      let t : 1 ≤ p.groups = rw h.groups-are (groups-positive (board_of file)) in
+      let nets : n ≤ most_nets = (let f = l.nets.at_most in omega arith) in
+      let limit : (0 < ssol) × (ssol ≤ most_limit) = (let f = l.limit.positive in let g = l.limit.at_most in (omega arith, omega arith)) in
+      let within : g ≤ most_drivers = rw g-is groups-within in
       record {
-        nets = n;
-        coded = rw h.wide-are (wide-positive (board_of file));
-        narrow = wide-bounded (board_of file) p h n;
-        turns = t;
-        groups-bounded = omega (arith, g);
+        nets = nets;
+        coded = rw p-is (width_positive n);
+        narrow = (let w = width-bounded most_width n (omega arith) in omega arith);
+        turns = rw g-is (groups-positive (board_of file));
+        groups-bounded = omega (arith, within);
         limited = limit.0;
         limit-bounded = omega (arith, limit.1);
       }

@@ -17,8 +17,9 @@ use Rattle.rules.specs.File.{most_number}
 use Rattle.rules.specs.Vectors.{code_bit, changes, differs, inserted_after, between, steps_of}
 use Rattle.rules.specs.declared.Step.TheVariants.{Base, Inserted}
 use Rattle.words.specs.Sets.{net_words, unlike, up_to}
-use Rattle.plan.specs.declared.steps.Plan.{Plan}
-use Rattle.plan.specs.Plans.{bases_for, most_patterns, inserted_between, full_after, full_start, round_of, Small, start_of}
+use Rattle.plan.specs.declared.numbers.Plan.{Plan}
+use Rattle.plan.specs.Bounds.{most_patterns}
+use Rattle.plan.specs.Plans.{bases_for, inserted_between, full_after, full_start, round_of, start_of}
 use Rattle.plan.proofs.StepLaws.{size, size-positive, changes-all, changes-bounded, extra-with-next, extra-none, start-zero, start-next, start-end, part_length, step-base, step-inserted}
 
 -- each vector before part k is one of an earlier part
@@ -97,13 +98,13 @@ unfolding round_of
 start-repeats p i l = full-starts p (p.wide + i) l ∙ (rw one-mul at (full-later p 1 i)) ∙ ap (λ (t : ℕ). round_of p + t) (sym (full-starts p i (omega arith)))
 
 -- after the very last base vector nothing is inserted
-pub total-rounds : (p : Plan) → Small p → length (steps_of (bases_for p)) + full_after p (p.wide - 1) ≡ p.groups * round_of p
-total-rounds p s = go (size p - 1) (let z = size-positive p s in omega arith)
+pub total-rounds : (p : Plan) → length (steps_of (bases_for p)) + full_after p (p.wide - 1) ≡ p.groups * round_of p
+total-rounds p = go (size p - 1) (let z = size-positive p in omega arith)
   where
     go : (i : ℕ) → i + 1 ≡ size p → length (steps_of (bases_for p)) + full_after p (p.wide - 1) ≡ p.groups * round_of p
     go i q =
-        let w = s.coded in
-        let g = s.turns in
+        let w = p.small.coded in
+        let g = p.small.turns in
         let m : p.groups ≡ p.groups - 1 + 1 = omega arith in
         let n = ap (λ (k : ℕ). k * p.wide) m ∙ add-mul (p.groups - 1) 1 p.wide in
         let last : i ≡ (p.groups - 1) * p.wide + (p.wide - 1) = omega arith in
@@ -111,43 +112,43 @@ total-rounds p s = go (size p - 1) (let z = size-positive p s in omega arith)
         omega (arith, start-end p, ap (start_of p) q, start-next p i, extra-none p i (omega arith), full-starts p i (omega arith), full-next p i, ap (full_start p) q, full-rounds p p.groups)
 
 -- the first round's base vectors are the plan's
-pub round-below : (p : Plan) → Small p → (j : ℕ) → j < p.wide → j < size p
-round-below p s j l = let m = mul-le-mul_right p.wide s.turns in omega (arith, one-mul p.wide)
+pub round-below : (p : Plan) → (j : ℕ) → j < p.wide → j < size p
+round-below p j l = let m = mul-le-mul_right p.wide p.small.turns in omega (arith, one-mul p.wide)
 
 -- the bounds of a round
-pub full-bounded : (p : Plan) → Small p → (i : ℕ) → full_after p i ≤ 64 * net_words
+pub full-bounded : (p : Plan) → (i : ℕ) → full_after p i ≤ 64 * net_words
 unfolding full_after
-full-bounded p s i = le_trans (ceil-bounded (changes (bases_for p) i) p.limit s.limited) (changes-bounded p s i)
+full-bounded p i = le_trans (ceil-bounded (changes (bases_for p) i) p.limit p.small.limited) (changes-bounded p i)
 
-pub full-start-bounded : (p : Plan) → Small p → (i : ℕ) → full_start p i ≤ (64 * net_words + 1) * i
+pub full-start-bounded : (p : Plan) → (i : ℕ) → full_start p i ≤ (64 * net_words + 1) * i
 unfolding full_start
-full-start-bounded p s zero = omega arith
-full-start-bounded p s (suc i) = let r = full-start-bounded p s i in omega (arith, full-bounded p s i)
+full-start-bounded p zero = omega arith
+full-start-bounded p (suc i) = let r = full-start-bounded p i in omega (arith, full-bounded p i)
 
-pub round-bounded : (p : Plan) → Small p → round_of p ≤ (64 * net_words + 1) * most_patterns
+pub round-bounded : (p : Plan) → round_of p ≤ (64 * net_words + 1) * most_patterns
 unfolding round_of
-round-bounded p s = let n = s.narrow in omega (arith, full-start-bounded p s p.wide)
+round-bounded p = let n = p.small.narrow in omega (arith, full-start-bounded p p.wide)
 
-pub rounds-bounded : (p : Plan) → Small p → p.groups * round_of p ≤ most_number * ((64 * net_words + 1) * most_patterns)
-rounds-bounded p s = le_trans (mul-le-mul_right (round_of p) s.groups-bounded) (mul-le-mul_left most_number (round-bounded p s))
+pub rounds-bounded : (p : Plan) → p.groups * round_of p ≤ most_number * ((64 * net_words + 1) * most_patterns)
+rounds-bounded p = le_trans (mul-le-mul_right (round_of p) p.small.groups-bounded) (mul-le-mul_left most_number (round-bounded p))
 
 full-start-at-least : (p : Plan) (i : ℕ) → i ≤ full_start p i
 unfolding full_start
 full-start-at-least p zero = omega arith
 full-start-at-least p (suc i) = let r = full-start-at-least p i in omega arith
 
-pub round-positive : (p : Plan) → Small p → 1 ≤ round_of p
+pub round-positive : (p : Plan) → 1 ≤ round_of p
 unfolding round_of
-round-positive p s = let w = s.coded in omega (arith, full-start-at-least p p.wide)
+round-positive p = let w = p.small.coded in omega (arith, full-start-at-least p p.wide)
 
 -- what is inserted between the values of two neighbours
-pub between_is : (p : Plan) → Small p → (i : ℕ) (old new : ℕ → Bool) → old ≡ (bases_for p).value i → new ≡ (bases_for p).value (i + 1) → inserted_between old new p.limit ≡ full_after p i
+pub between_is : (p : Plan) → (i : ℕ) (old new : ℕ → Bool) → old ≡ (bases_for p).value i → new ≡ (bases_for p).value (i + 1) → inserted_between old new p.limit ≡ full_after p i
 unfolding inserted_between full_after differs
-between_is p s i old new e h =
-    ap₂ (λ (f g : ℕ → Bool). ceil (count (64 * net_words) (unlike f g)) p.limit - 1) e h ∙ ap (λ (n : ℕ). ceil n p.limit - 1) (changes-all p s i)
+between_is p i old new e h =
+    ap₂ (λ (f g : ℕ → Bool). ceil (count (64 * net_words) (unlike f g)) p.limit - 1) e h ∙ ap (λ (n : ℕ). ceil n p.limit - 1) (changes-all p i)
 
 -- vector t of a turn, in part j of its round, and what stands there
-module _ (p : Plan) (s : Small p) (turn t j left : ℕ) (h : turn * round_of p + t < length (steps_of (bases_for p))) (l : j < p.wide) (e : full_start p j + left ≡ t) where
+module _ (p : Plan) (turn t j left : ℕ) (h : turn * round_of p + t < length (steps_of (bases_for p))) (l : j < p.wide) (e : full_start p j + left ≡ t) where
   pub turn-bounded : turn * p.wide + j < size p
   turn-bounded = ⊎_elim inside past (order turn p.groups)
     where
@@ -155,7 +156,7 @@ module _ (p : Plan) (s : Small p) (turn t j left : ℕ) (h : turn * round_of p +
       inside q = let m = mul-le-mul_right p.wide q in omega arith
 
       past : p.groups ≤ turn → turn * p.wide + j < size p
-      past q = absurd (let m = mul-le-mul_right (round_of p) q in omega (arith, total-rounds p s))
+      past q = absurd (let m = mul-le-mul_right (round_of p) q in omega (arith, total-rounds p))
 
   turn-start : start_of p (turn * p.wide + j) + left ≡ turn * round_of p + t
   turn-start = omega (arith, start-turns p turn j turn-bounded)

@@ -22,27 +22,28 @@ use Rattle.rules.specs.File.{most_number}
 use Rattle.rules.specs.Vectors.{differs, changes, inserted_after, between, steps_of}
 use Rattle.rules.specs.declared.Step.TheVariants.{Base, Inserted}
 use Rattle.words.specs.Sets.{net_words, up_to}
-use Rattle.plan.specs.declared.steps.Plan.{Plan}
-use Rattle.plan.specs.Plans.{bases_for, most_patterns, Small, start_of}
+use Rattle.plan.specs.declared.numbers.Plan.{Plan}
+use Rattle.plan.specs.Bounds.{most_patterns}
+use Rattle.plan.specs.Plans.{bases_for, start_of}
 
 -- the number of base vectors
 abbrev pub size : Plan → ℕ
 size p = p.groups * p.wide
 
-pub size-bounded : (p : Plan) → Small p → size p ≤ most_number * most_patterns
-size-bounded p s = le_trans (mul-le-mul_right p.wide s.groups-bounded) (mul-le-mul_left most_number s.narrow)
+pub size-bounded : (p : Plan) → size p ≤ most_number * most_patterns
+size-bounded p = le_trans (mul-le-mul_right p.wide p.small.groups-bounded) (mul-le-mul_left most_number p.small.narrow)
 
-pub size-positive : (p : Plan) → Small p → 1 ≤ size p
-size-positive p s = le_trans (mul-le-mul_right 1 s.turns) (mul-le-mul_left p.groups s.coded)
+pub size-positive : (p : Plan) → 1 ≤ size p
+size-positive p = le_trans (mul-le-mul_right 1 p.small.turns) (mul-le-mul_left p.groups p.small.coded)
 
 -- what differs lies below N, so a count over all members of a set counts it
-pub changes-all : (p : Plan) → Small p → (i : ℕ) → count (64 * net_words) (differs (bases_for p) i) ≡ changes (bases_for p) i
+pub changes-all : (p : Plan) → (i : ℕ) → count (64 * net_words) (differs (bases_for p) i) ≡ changes (bases_for p) i
 unfolding changes differs bases_for up_to xor
-changes-all p s i = count-bound _ s.nets (λ m h l. rw (le-ltb m p.nets h) refl)
+changes-all p i = count-bound _ p.small.nets (λ m h l. rw (le-ltb m p.nets h) refl)
 
-pub changes-bounded : (p : Plan) → Small p → (i : ℕ) → changes (bases_for p) i ≤ 64 * net_words
+pub changes-bounded : (p : Plan) → (i : ℕ) → changes (bases_for p) i ≤ 64 * net_words
 unfolding changes bases_for
-changes-bounded p s i = le_trans (count-le p.nets (differs (bases_for p) i)) s.nets
+changes-bounded p i = le_trans (count-le p.nets (differs (bases_for p) i)) p.small.nets
 
 -- how many are inserted after base vector i, by whether there is a next
 pub extra-with-next : (p : Plan) (i h : ℕ) → i + 1 < size p → h ≡ changes (bases_for p) i → ceil h p.limit - 1 ≡ inserted_after (bases_for p) i
@@ -53,12 +54,12 @@ pub extra-none : (p : Plan) (i : ℕ) → size p ≤ i + 1 → 0 ≡ inserted_af
 unfolding inserted_after bases_for
 extra-none p i l = rw (le-ltb (i + 1) (size p) l) refl
 
-pub extra-bounded : (p : Plan) → Small p → (i : ℕ) → inserted_after (bases_for p) i ≤ 64 * net_words
-extra-bounded p s i = ⊎_elim has-next none (order (i + 1) (size p))
+pub extra-bounded : (p : Plan) → (i : ℕ) → inserted_after (bases_for p) i ≤ 64 * net_words
+extra-bounded p i = ⊎_elim has-next none (order (i + 1) (size p))
   where
     has-next : i + 1 < size p → inserted_after (bases_for p) i ≤ 64 * net_words
     has-next l =
-        rw (← extra-with-next p i (changes (bases_for p) i) l refl) (le_trans (ceil-bounded (changes (bases_for p) i) p.limit s.limited) (changes-bounded p s i))
+        rw (← extra-with-next p i (changes (bases_for p) i) l refl) (le_trans (ceil-bounded (changes (bases_for p) i) p.limit p.small.limited) (changes-bounded p i))
 
     none : size p ≤ i + 1 → inserted_after (bases_for p) i ≤ 64 * net_words
     none l = rw (← extra-none p i l) (omega arith)

@@ -5,7 +5,7 @@ use Rattle.rules.specs.Drivers.{groups_of}
 use Rattle.rules.specs.Refusals.{judge, count_checks, Accepted}
 use Rattle.rules.specs.Vectors.{width_of}
 use Rattle.select.specs.Turns.{Ready}
-use Rattle.plan.specs.declared.steps.Plan.{Plan}
+use Rattle.plan.specs.declared.numbers.Plan.{Plan}
 
 -- the plan's four numbers are the board's N, p, G and SSOL
 pub record PlanOf (b : Board) (p : Plan) : Type 0 where

@@ -1,13 +1,13 @@
--- The base vectors of a plan's four numbers, one round of their patterns, and how large these may be. Assumes nothing.
+-- The base vectors of a plan's four numbers, and one round of their patterns. Assumes nothing.
 use Rattle.std.specs.Prelude.{ℕ, zero, suc, ◌+◌, ◌*◌, ◌-◌, ◌/◌, ◌%◌, ◌≤◌, ◌<◌, ◌≡◌, Bool, cond, length}
 use Rattle.base.specs.Digits.{bit, ceil}
 use Rattle.base.specs.Counting.{count, among}
-use Rattle.rules.specs.File.{most_number}
 use Rattle.rules.specs.Vectors.{Bases, code_bit, changes, between}
 use Rattle.rules.specs.declared.Step.{Step}
 use Rattle.rules.specs.declared.Step.TheVariants.{Base, Inserted}
 use Rattle.words.specs.Sets.{net_words, unlike, up_to}
-use Rattle.plan.specs.declared.steps.Plan.{Plan}
+use Rattle.plan.specs.Bounds.{Bounded}
+use Rattle.plan.specs.declared.numbers.Plan.{Plan}
 use Rattle.base.specs.Weave.{weave}
 
 -- the base vectors of a board whose N, p, G and SSOL are the plan's
@@ -19,19 +19,9 @@ bases_for p =
 pub record WordOf (f : ℕ → Bool) (w word : ℕ) : Type 0 where
   pub digits : (k : ℕ) → k < 64 → bit word k ≡ f (64 * w + k)
 
--- as many patterns as a code may have, loosely: `most_width` of them and some more
-abbrev pub most_patterns : ℕ
-most_patterns = 20
-
--- loose bounds of the four numbers, within which no count overflows
-pub record Small (p : Plan) : Type 0 where
-  pub nets : p.nets ≤ 64 * net_words
-  pub coded : 1 ≤ p.wide
-  pub narrow : p.wide ≤ most_patterns
-  pub turns : 1 ≤ p.groups
-  pub groups-bounded : p.groups ≤ most_number
-  pub limited : 1 ≤ p.limit
-  pub limit-bounded : p.limit ≤ most_number
+-- the bounds of a plan's numbers: true of every plan, by its type
+abbrev pub Small : Plan → Type 0
+Small p = Bounded p.nets p.wide p.groups p.limit
 
 -- the step stands in the plan's base vectors, and its number among the inserted ones is no larger than the number of nets
 abbrev pub Within : Plan → Step → Type 0

@@ -6,7 +6,7 @@ ghost use Rattle.rules.specs.Vectors.{steps_of};
 ghost use Rattle.chains.specs.Table.{Blank};
 ghost use Rattle.select.specs.Turns.{Ready};
 ghost use Rattle.plan.specs.Planning.{PlanOf, Admitted};
-ghost use Rattle.plan.specs.Plans.{bases_for, Small};
+ghost use Rattle.plan.specs.Plans.{bases_for};
 
 use crate::codes::width;
 use crate::steps::{Plan, total};
@@ -34,7 +34,6 @@ pub fn plan_of(file: &[u8], table: &[u16; TABLE]) -> Plan
 
 // Refusal 12: over 4,096 vectors.
 fn count_verdict(plan: Plan) -> Verdict
-    requires { Small plan }
     ensures { result ≡ judge (once 12 (ltb most_vectors (length (steps_of (bases_for plan)))) ∷ []) }
 {
     rules::once(12, MOST_VECTORS < total(plan))

@@ -3,5 +3,6 @@
 
 pub mod boards;
 pub mod codes;
+pub mod numbers;
 pub mod steps;
 pub mod values;

@@ -4,24 +4,15 @@ ghost use Rattle.rules.specs.File.{most_number};
 ghost use Rattle.rules.specs.Vectors.{inserted_after, steps_of};
 ghost use Rattle.rules.specs.declared.Step.TheVariants.{Base};
 ghost use Rattle.words.specs.Sets.{member};
-ghost use Rattle.plan.specs.Plans.{bases_for, inserted_between, full_after, round_of, Small};
+ghost use Rattle.plan.specs.Plans.{bases_for, inserted_between, full_after, round_of};
 
 use crate::codes::{inserted, pattern};
+pub use crate::numbers::Plan;
 use rules::Step;
 use words::NetSet;
 
-// All that the weaving of vectors goes by: N, p, G and SSOL.
-#[derive(Clone, Copy)]
-pub struct Plan {
-    pub nets: usize,
-    pub wide: usize,
-    pub groups: usize,
-    pub limit: usize,
-}
-
 // The net values of base vector i.
 pub fn base_values(plan: Plan, i: usize) -> NetSet
-    requires { Small plan }
     ensures { member result.words ≡ (bases_for plan).value i }
 {
     pattern(plan.nets, plan.wide, i % plan.wide)
@@ -37,8 +28,7 @@ fn inserted_between(old: NetSet, new: NetSet, limit: usize) -> usize
 
 // How many vectors are inserted after base vector i where another follows.
 fn full_after(plan: Plan, i: usize) -> usize
-    requires small { Small plan }
-    requires i_bound { i < plan.groups * plan.wide }
+    requires { i < plan.groups * plan.wide }
     ensures { result ≡ full_after plan i }
 {
     let old = base_values(plan, i);
@@ -48,8 +38,7 @@ fn full_after(plan: Plan, i: usize) -> usize
 
 // How many vectors are inserted after base vector i.
 pub fn extra_after(plan: Plan, i: usize) -> usize
-    requires small { Small plan }
-    requires i_bound { i < plan.groups * plan.wide }
+    requires { i < plan.groups * plan.wide }
     ensures { result ≡ inserted_after (bases_for plan) i }
 {
     if i + 1 < plan.groups * plan.wide {
@@ -60,7 +49,6 @@ pub fn extra_after(plan: Plan, i: usize) -> usize
 
 // The number of vectors of one round of the patterns where another follows it. Each pattern is taken once.
 pub(crate) fn round(plan: Plan) -> usize
-    requires { Small plan }
     ensures { result ≡ round_of plan }
 {
     let mut old = base_values(plan, 0);
@@ -75,7 +63,6 @@ pub(crate) fn round(plan: Plan) -> usize
 
 // The number of vectors: a round for each group, less what is inserted after a round's last pattern, since none follows the last.
 pub fn total(plan: Plan) -> usize
-    requires { Small plan }
     ensures { result ≡ length (steps_of (bases_for plan)) }
 {
     plan.groups * round(plan) - full_after(plan, plan.wide - 1)
@@ -83,7 +70,6 @@ pub fn total(plan: Plan) -> usize
 
 // Step t of a turn: each group is one turn of the patterns, counted from 0.
 fn step_in(plan: Plan, turn: usize, t: usize) -> Step
-    requires small { Small plan }
     requires t_bound { t < round_of plan }
     requires t_in_bounds { turn * round_of plan + t < length (steps_of (bases_for plan)) }
     ensures { result ≡ get_or (steps_of (bases_for plan)) (turn * round_of plan + t) (Base 0) }
@@ -106,8 +92,7 @@ fn step_in(plan: Plan, turn: usize, t: usize) -> Step
 
 // Step t.
 pub fn step_at(plan: Plan, t: usize) -> Step
-    requires small { Small plan }
-    requires t_in_bounds { t < length (steps_of (bases_for plan)) }
+    requires { t < length (steps_of (bases_for plan)) }
     ensures { result ≡ get_or (steps_of (bases_for plan)) t (Base 0) }
 {
     let round = round(plan);

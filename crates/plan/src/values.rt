@@ -3,7 +3,7 @@ ghost use Rattle.std.specs.Prelude.{◌≡◌, ◌*◌};
 ghost use Rattle.rules.specs.Vectors.{vector_of};
 ghost use Rattle.rules.specs.declared.Step.TheVariants.{Inserted};
 ghost use Rattle.words.specs.Sets.{member};
-ghost use Rattle.plan.specs.Plans.{bases_for, mix, Small, Within};
+ghost use Rattle.plan.specs.Plans.{bases_for, mix, Within};
 
 use crate::steps::{Plan, base_values};
 use rules::Step;
@@ -19,8 +19,7 @@ pub fn mixed(old: NetSet, new: NetSet, k: usize) -> NetSet
 
 // The t-th inserted after base vector i: the t x SSOL lowest of the differing nets have changed.
 fn inserted_values(plan: Plan, i: usize, t: usize) -> NetSet
-    requires small { Small plan }
-    requires within { Within plan (Inserted i t) }
+    requires { Within plan (Inserted i t) }
     ensures { member result.words ≡ (vector_of (bases_for plan) (Inserted i t)).value }
 {
     let old = base_values(plan, i);
@@ -30,8 +29,7 @@ fn inserted_values(plan: Plan, i: usize, t: usize) -> NetSet
 
 // The net values of a step's vector.
 pub fn values(plan: Plan, step: Step) -> NetSet
-    requires small { Small plan }
-    requires within { Within plan step }
+    requires { Within plan step }
     ensures { member result.words ≡ (vector_of (bases_for plan) step).value }
 {
     match step {
@@ -42,8 +40,7 @@ pub fn values(plan: Plan, step: Step) -> NetSet
 
 // The group of a step's vector, from 1: an inserted one has the earlier group.
 pub fn group_of(plan: Plan, step: Step) -> usize
-    requires small { Small plan }
-    requires within { Within plan step }
+    requires { Within plan step }
     ensures { result ≡ (vector_of (bases_for plan) step).group }
 {
     match step {

@@ -10,7 +10,7 @@ use Rattle.rules.specs.Rows.{row_bytes}
 use Rattle.rules.specs.File.{number_values}
 use Rattle.rules.specs.Refusals.{most_vectors, most_bytes}
 use Rattle.rules.specs.Vectors.{inserted_after, steps_of}
-use Rattle.plan.specs.declared.steps.Plan.{Plan}
+use Rattle.plan.specs.declared.numbers.Plan.{Plan}
 use Rattle.plan.specs.Plans.{bases_for, mix, start_of}
 use Rattle.plan.proofs.MixLaws.{value-at}
 use Rattle.plan.proofs.StepLaws.{size, start-zero, start-next, start-end}
@@ -49,7 +49,7 @@ place_in t vectors bytes l bounded short = omega (arith, place-small t bytes (om
 pub rowed : (p : Plan) (capture : List ℕ) (cells bytes : ℕ) → Captured p capture cells bytes → Rowed p capture bytes
 unfolding row_bytes ceil
 rowed p capture cells bytes k =
-    record { small = k.small; short = (let f = k.cells-bounded in omega (arith, k.bytes-are)); vectors = k.vectors; rows_are = k.rows_are }
+    record { short = (let f = k.cells-bounded in omega (arith, k.bytes-are)); vectors = k.vectors; rows_are = k.rows_are }
 
 module _ (p : Plan) (capture : List ℕ) (bytes : ℕ) (k : Rowed p capture bytes) where
   pub row_inside : (t : ℕ) → t < length (steps_of (bases_for p)) → t * bytes + bytes ≤ length capture

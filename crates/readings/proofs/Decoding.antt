@@ -21,8 +21,8 @@ use Rattle.rules.specs.Refusals.{most_width}
 use Rattle.rules.specs.Vectors.{code_bit, steps_of, vector_of}
 use Rattle.rules.specs.declared.Step.{Step}
 use Rattle.words.specs.Sets.{up_to}
-use Rattle.plan.specs.declared.steps.Plan.{Plan}
-use Rattle.plan.specs.Plans.{bases_for, Small, start_of}
+use Rattle.plan.specs.declared.numbers.Plan.{Plan}
+use Rattle.plan.specs.Plans.{bases_for, start_of}
 use Rattle.plan.proofs.StepLaws.{step-base}
 use Rattle.plan.proofs.RoundLaws.{round-below}
 use Rattle.readings.specs.Readings.{value_at, off_at, read_below, code_from, most_half, Mapped, Captured}
@@ -30,8 +30,8 @@ use Rattle.readings.proofs.CapturePlaces.{part-below}
 use Rattle.readings.proofs.MappedLaws.{mapped-same, mapped-then}
 
 -- the first group's base vectors are among all
-pub first-in : (p : Plan) (j t : ℕ) → Small p → j < p.wide → t ≡ start_of p j → t < length (steps_of (bases_for p))
-first-in p j t s l e = let q = part-below p j 0 t (round-below p s j l) e (omega arith) in omega arith
+pub first-in : (p : Plan) (j t : ℕ) → j < p.wide → t ≡ start_of p j → t < length (steps_of (bases_for p))
+first-in p j t l e = let q = part-below p j 0 t (round-below p j l) e (omega arith) in omega arith
 
 -- a code of j bits is below 2 ^ j
 code_below : (p : Plan) (bytes : ℕ) (capture : List ℕ) (j c : ℕ) → code_from p bytes capture j c 0 < 2 ^ j
@@ -85,10 +85,10 @@ module _ (p : Plan) (bytes : ℕ) (capture : List ℕ) (n c : ℕ) (bits : (j : 
       digits_from p.wide (omega arith) h ∙ ap (λ (k : ℕ). suc n / 2 ^ k) (let z : p.wide - p.wide ≡ 0 = omega arith in z) ∙ div-one (suc n)
 
 -- net n's value in base vector j of the first group is its code's bit
-pub first-value : (p : Plan) (j n : ℕ) → Small p → j < p.wide → n < p.nets → value_at p (start_of p j) n ≡ code_bit p.wide j n
+pub first-value : (p : Plan) (j n : ℕ) → j < p.wide → n < p.nets → value_at p (start_of p j) n ≡ code_bit p.wide j n
 unfolding value_at vector_of bases_for up_to
-first-value p j n s l m =
-    ap (λ (x : Step). (vector_of (bases_for p) x).value n) (sym (step-base p (start_of p j) j 0 (round-below p s j l) (omega arith) refl))
+first-value p j n l m =
+    ap (λ (x : Step). (vector_of (bases_for p) x).value n) (sym (step-base p (start_of p j) j 0 (round-below p j l) (omega arith) refl))
     ∙ rw (lt-ltb n p.nets m, mod-eq_of_lt l)
 
 -- a cell that reads net n's own word reads its code
@@ -99,8 +99,8 @@ module _ (p : Plan) (capture : List ℕ) (cells bytes : ℕ) (k : Captured p cap
     where
       bits : (j : ℕ) → j < p.wide → row_bit capture (start_of p j * bytes) c ≡ code_bit p.wide j n
       bits j m =
-          alike _ _ (fails-not _ (all-at _ _ r {i = start_of p j} (let q = part-below p j 0 (start_of p j) (round-below p k.small j m) refl (omega arith) in omega arith)))
-          ∙ first-value p j n k.small m l
+          alike _ _ (fails-not _ (all-at _ _ r {i = start_of p j} (let q = part-below p j 0 (start_of p j) (round-below p j m) refl (omega arith) in omega arith)))
+          ∙ first-value p j n m l
 
 -- no entry is above the number of nets
 pub own-bounded : (nets code : ℕ) → cond (ltb nets code) 0 code ≤ nets

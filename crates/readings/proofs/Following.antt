@@ -3,22 +3,19 @@ use Prim.Native.Nat.{ℕ, zero, suc, ◌+◌, ◌*◌, ◌-◌, ◌≤◌, ◌<�
 use mathlib.Core.Path.{◌≡◌, refl, sym, ◌∙◌, ap, ap₂}
 use mathlib.Core.Bool.{Bool, true, false, xor, ◌&&◌, ◌||◌, or_comm}
 use mathlib.Core.List.{List}
-use native.Mathlib.Nat.{mul-le-mul_right, one-mul}
 use native.Mathlib.Omega.{arith}
 use borrow.Author.Tests.{lt-ltb, le-ltb}
 use lib.ListN.{length, get_or}
 use Rattle.base.specs.Tests.{any}
-use Rattle.rules.specs.Refusals.{most_vectors}
 use Rattle.rules.specs.Vectors.{inserted_after, steps_of}
 use Rattle.rules.specs.Rows.{row_bit}
 use Rattle.words.specs.Sets.{nothing, unlike}
-use Rattle.plan.specs.declared.steps.Plan.{Plan}
-use Rattle.plan.specs.Plans.{bases_for, mix, Small, start_of}
-use Rattle.plan.proofs.StepLaws.{size}
+use Rattle.plan.specs.declared.numbers.Plan.{Plan}
+use Rattle.plan.specs.Plans.{bases_for, mix, start_of}
 use Rattle.readings.specs.Readings.{value_at, period, stray, stray_at, stray_after, stray_in, other_later, lost, Rowed, Left, Part}
-use Rattle.readings.proofs.CapturePlaces.{starts-next, starts-end, part-below, part-value, row_inside}
+use Rattle.readings.proofs.CapturePlaces.{starts-next, part-below, part-value}
 use Rattle.readings.proofs.LeftLaws.{left-then, left-same, left-all, left_one}
-use Rattle.readings.proofs.Repeating.{base-value, next-below, starts-least}
+use Rattle.readings.proofs.Repeating.{base-value, next-below}
 
 -- one vector more
 module _ (p : Plan) (bytes : ℕ) (capture table : List ℕ) where
@@ -71,18 +68,17 @@ module _ (p : Plan) (bytes : ℕ) (capture table : List ℕ) where
 
   -- the first group and the later ones
   pub left-lost :
-      {before between after : List ℕ} {n : ℕ} (first vectors : ℕ) →
+      {before between after : List ℕ} {n : ℕ} (first : ℕ) →
       first ≡ period p →
-      vectors ≡ length (steps_of (bases_for p)) →
       Left (λ c. any p.wide (stray_in p bytes capture table c)) before n between →
-      Left (λ c. any (vectors - first) (other_later first bytes capture c)) between n after →
+      Left (λ c. any (length (steps_of (bases_for p)) - first) (other_later first bytes capture c)) between n after →
       Left (lost p bytes capture table) before n after
   unfolding lost
-  left-lost first vectors e h m r =
+  left-lost first e m r =
       left-same
       (λ c.
-      or_comm (any (vectors - first) (other_later first bytes capture c)) (any p.wide (stray_in p bytes capture table c))
-      ∙ ap₂ (λ (x y : ℕ). any p.wide (stray_in p bytes capture table c) || any (y - x) (other_later x bytes capture c)) e h)
+      or_comm (any (length (steps_of (bases_for p)) - first) (other_later first bytes capture c)) (any p.wide (stray_in p bytes capture table c))
+      ∙ ap (λ (x : ℕ). any p.wide (stray_in p bytes capture table c) || any (length (steps_of (bases_for p)) - x) (other_later x bytes capture c)) e)
       (left-then m r)
 
 -- one later vector more: no net changes there, so no reading may
@@ -115,11 +111,8 @@ module _ (p : Plan) (capture : List ℕ) (bytes : ℕ) (w : Rowed p capture byte
       let e : i + 1 ≡ suc i = omega arith in
       omega (arith, ap (start_of p) e)
 
-  pub next_row : (k : ℕ) → k ≤ extra → ((t + k + 1) * bytes + bytes ≤ length capture) × (t + k ≤ most_vectors)
-  next_row k l =
-      let b = last-below in
-      let v = w.vectors in
-      (row_inside p capture bytes w (t + k + 1) (omega arith), omega arith)
+  pub later_below : (k : ℕ) → k ≤ extra → t + k + 1 < length (steps_of (bases_for p))
+  later_below k l = let b = last-below in omega arith
 
   -- and the values that their nets have
   pub values-first : (old : ℕ → Bool) → old ≡ (bases_for p).value i → old ≡ value_at p (t + 0)
@@ -142,9 +135,3 @@ values-on p t k f e = e ∙ ap (value_at p) (let s : t + k + 1 ≡ t + (k + 1) =
 pub period-is : (p : Plan) (i t : ℕ) → t ≡ start_of p i → i ≡ p.wide → t ≡ period p
 unfolding period
 period-is p i t e h = e ∙ ap (start_of p) h
-
-pub period-bounded : (p : Plan) → Small p → period p ≤ length (steps_of (bases_for p))
-unfolding period
-period-bounded p s =
-    let m = mul-le-mul_right {m = 1} {n = p.groups} p.wide s.turns in
-    omega (arith, starts-least p p.wide (size p) (omega (arith, one-mul p.wide)), starts-end p (size p) (start_of p (size p)) refl refl)

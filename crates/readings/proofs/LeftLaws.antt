@@ -16,7 +16,7 @@ use Rattle.base.proofs.BoolLaws.{order}
 use Rattle.base.proofs.WordLaws.{bit-and, bit-xor, bit-zero}
 use Rattle.rules.specs.File.{byte_at, byte_values}
 use Rattle.rules.specs.Rows.{row_bit}
-use Rattle.readings.specs.Readings.{stray, staying, stray_at, Left, Lent}
+use Rattle.readings.specs.Readings.{stray, staying, stray_at, Left}
 
 -- where no digit is both left and unlike, all stay
 all_stay :
@@ -140,7 +140,3 @@ pub left-byte :
     Left (stray_at capture at other changing table) before (8 * (j + 1)) after
 left-byte capture table before between after at other j changing unlike m l u e =
     rw e (left-more _ before between j _ m l (sifted capture table between at other j _ unlike changing u refl))
-
--- what is lent stays as long
-pub still-lent : {lost : ℕ → Bool} {table before after : List ℕ} {bytes n : ℕ} → Lent bytes table before → Left lost before n after → Lent bytes table after
-still-lent h m = record { entries = h.entries; room = (let r = h.room in omega (arith, m.long)) }

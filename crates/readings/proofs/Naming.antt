@@ -8,7 +8,7 @@ use native.Mathlib.Nat.{le_trans}
 use native.Mathlib.Omega.{arith}
 use borrow.Author.Tests.{eqb-true, eq-eqb, le-ltb}
 use lib.Dec.{ltb, eqb}
-use lib.ListN.{length, get_or, replicate, length-replicate}
+use lib.ListN.{length, get_or, replicate}
 use Rattle.std.proofs.lemmas.List.{get_or-replicate}
 use Rattle.base.specs.Digits.{bit, ceil, word}
 use Rattle.base.proofs.DigitLaws.{bit_word}
@@ -18,9 +18,9 @@ use Rattle.rules.specs.File.{byte_at}
 use Rattle.rules.specs.Refusals.{most_bytes}
 use Rattle.rules.specs.Vectors.{steps_of}
 use Rattle.words.specs.Sets.{net_words}
-use Rattle.plan.specs.declared.steps.Plan.{Plan}
+use Rattle.plan.specs.declared.numbers.Plan.{Plan}
 use Rattle.plan.specs.Plans.{bases_for}
-use Rattle.readings.specs.Readings.{read_below, code_from, lost, Mapped, Entries, Captured, Left, Lent, Read}
+use Rattle.readings.specs.Readings.{read_below, code_from, lost, Mapped, Entries, Captured, Left, Read}
 use Rattle.readings.proofs.Decoding.{own-bounded, reads-code}
 use Rattle.readings.proofs.Repeating.{left-reads, reads-left}
 
@@ -35,24 +35,21 @@ all_left n c l =
     ap (λ (x : ℕ). bit x (c % 8)) (get_or-replicate n (0 + c / 8) 255 0 (omega arith)) ∙ full-bit (c % 8) (omega arith)
 
 -- the entries beside those of cells are still 0, so there is one for each bit of a row
-pub own-lent :
+pub own_entries :
     (p : Plan) (capture before coded own : List ℕ) (cells bytes : ℕ) →
     Captured p capture cells bytes →
     Entries 0 (8 * row_bytes cells) before →
     Mapped (code_from p bytes capture p.wide) before cells coded →
     Mapped (λ c code. cond (ltb p.nets code) 0 code) coded cells own →
-    Lent bytes own (replicate most_bytes 255)
+    Entries (64 * net_words) (8 * bytes) own
 unfolding row_bytes ceil
-own-lent p capture before coded own cells bytes k z m o =
-    record {
-      entries = record { long = (let a = z.long in omega (arith, k.bytes-are, m.long, o.long)); entries-bounded = entries-within };
-      room = (let f = k.cells-bounded in omega (arith, k.bytes-are, length-replicate {A = ℕ} most_bytes 255));
-    }
+own_entries p capture before coded own cells bytes k z m o =
+    record { long = (let a = z.long in omega (arith, k.bytes-are, m.long, o.long)); entries-bounded = entries-within }
   where
     entries-within : (c : ℕ) → c < 8 * bytes → get_or own c 0 ≤ 64 * net_words
     entries-within c l =
         ⊎_elim
-        (λ (q : c < cells). rw (o.done c q) (le_trans (own-bounded p.nets (get_or coded c 0)) k.small.nets))
+        (λ (q : c < cells). rw (o.done c q) (le_trans (own-bounded p.nets (get_or coded c 0)) p.small.nets))
         (λ (q : cells ≤ c). let a = z.entries-bounded c (omega (arith, k.bytes-are)) in omega (arith, o.rest c q, m.rest c q))
         (order c cells)
 

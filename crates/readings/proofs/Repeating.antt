@@ -21,8 +21,8 @@ use Rattle.rules.specs.Vectors.{code_bit, inserted_after, steps_of, vector_of}
 use Rattle.rules.specs.declared.Step.{Step}
 use Rattle.rules.specs.Rows.{row_bit}
 use Rattle.words.specs.Sets.{unlike}
-use Rattle.plan.specs.declared.steps.Plan.{Plan}
-use Rattle.plan.specs.Plans.{bases_for, mix, Small, start_of}
+use Rattle.plan.specs.declared.numbers.Plan.{Plan}
+use Rattle.plan.specs.Plans.{bases_for, mix, start_of}
 use Rattle.plan.proofs.StepLaws.{size, start-zero, step-base, extra-none}
 use Rattle.plan.proofs.RoundLaws as plan
 use Rattle.plan.proofs.RoundLaws.{round-below}
@@ -93,9 +93,9 @@ start-repeats p i l =
     omega (arith, plan.start-repeats p i l, ap (start_of p) z, start-zero p)
 
 -- from period on the values are those of the first group once more
-pub value-repeats : (p : Plan) (u : ℕ) → Small p → period p + u < length (steps_of (bases_for p)) → value_at p (period p + u) ≡ value_at p u
+pub value-repeats : (p : Plan) (u : ℕ) → period p + u < length (steps_of (bases_for p)) → value_at p (period p + u) ≡ value_at p u
 unfolding period
-value-repeats p u s l =
+value-repeats p u l =
     let f = plan.locate p (size p) (period p + u) (omega (arith, starts-end p (size p) (start_of p (size p)) refl refl)) in
     go f.0 f.1 f.2 f.3 f.4 (later f.0 f.2 f.3 f.4)
   where
@@ -167,16 +167,15 @@ code-bits p bytes capture c (suc k) j l =
 -- a cell with net n's code reads the net's value in the first group's base vectors
 code-right :
     (p : Plan) (bytes : ℕ) (capture : List ℕ) (n c j : ℕ) →
-    Small p →
     n < p.nets →
     code_from p bytes capture p.wide c 0 ≡ suc n →
     j < p.wide →
     row_bit capture (start_of p j * bytes) c ≡ value_at p (start_of p j) n
 unfolding code_bit
-code-right p bytes capture n c j s m e l =
+code-right p bytes capture n c j m e l =
     sym (code-bits p bytes capture c p.wide j l)
     ∙ ap₂ bit (e ∙ sym (add-one n)) (ap (λ (k : ℕ). p.wide - k) (sym (add-one j)))
-    ∙ sym (first-value p j n s l m)
+    ∙ sym (first-value p j n l m)
 
 -- what no step of a stretch changes is the same at its ends
 level : (r : ℕ → Bool) (k left : ℕ) → ((j : ℕ) → k ≤ j → j < k + left → r j ≡ r (suc j)) → r k ≡ r (k + left)
@@ -227,7 +226,6 @@ module _ (r v a : ℕ → Bool) (old new : Bool) (extra : ℕ) (h : Once r v a o
 
 -- a reading that is right in the first group's base vectors, follows its net in between, and repeats
 record Kept (p : Plan) (n : ℕ) (r : ℕ → Bool) : Type 0 where
-  small : Small p
   first : (i : ℕ) → i < p.wide → r (start_of p i) ≡ value_at p (start_of p i) n
   follows :
       (i k : ℕ) →
@@ -247,10 +245,10 @@ module _ (p : Plan) (n : ℕ) (r : ℕ → Bool) (g : Kept p n r) where
     where
       second : i ≡ p.wide → r (start_of p i) ≡ value_at p (start_of p i) n
       second e =
-          let w = g.small.coded in
+          let w = p.small.coded in
           let b : period p + 0 < length (steps_of (bases_for p)) = part-below p p.wide 0 (start_of p p.wide) (omega arith) refl (omega arith) in
           let z : start_of p i ≡ period p + 0 = omega (arith, ap (start_of p) e) in
-          rw (z, g.later 0 b, value-repeats p 0 g.small b, starts_none p) (g.first 0 (omega arith))
+          rw (z, g.later 0 b, value-repeats p 0 b, starts_none p) (g.first 0 (omega arith))
 
   -- in each part of the first group
   part_right : (i k : ℕ) → i < p.wide → k ≤ inserted_after (bases_for p) i → r (start_of p i + k) ≡ value_at p (start_of p i + k) n
@@ -283,7 +281,7 @@ module _ (p : Plan) (n : ℕ) (r : ℕ → Bool) (g : Kept p n r) where
 
   period-positive : 1 ≤ period p
   unfolding period
-  period-positive = let w = g.small.coded in omega (arith, grows p 0, starts-least p 1 p.wide w)
+  period-positive = let w = p.small.coded in omega (arith, grows p 0, starts-least p 1 p.wide w)
 
   -- and in every vector, a period at a time
   below_right : (bound t : ℕ) → t < bound → t < length (steps_of (bases_for p)) → r t ≡ value_at p t n
@@ -300,7 +298,7 @@ module _ (p : Plan) (n : ℕ) (r : ℕ → Bool) (g : Kept p n r) where
           ap r e
           ∙ g.later (t - period p) m
           ∙ rest (t - period p) (omega arith) (omega arith)
-          ∙ sym (ap (λ (f : ℕ → Bool). f n) (value-repeats p (t - period p) g.small m))
+          ∙ sym (ap (λ (f : ℕ → Bool). f n) (value-repeats p (t - period p) m))
           ∙ sym (ap (λ (x : ℕ). value_at p x n) e)
 
   all_right : (t : ℕ) → t < length (steps_of (bases_for p)) → r t ≡ value_at p t n
@@ -391,8 +389,7 @@ left-reads p capture cells bytes k table n c m code entry l =
     right-at =
         all_right p n (λ t. row_bit capture (t * bytes) c)
         (record {
-          small = k.small;
-          first = λ i q. code-right p bytes capture n c i k.small m code q;
+          first = λ i q. code-right p bytes capture n c i m code q;
           follows = λ i j q. stray-not p bytes capture table n c entry i j (any_none p.wide (stray_in p bytes capture table c) clean.0 q);
           later = λ u q. alike _ _ (any_none later (other_later (period p) bytes capture c) clean.1 {i = u} (omega arith));
         })
@@ -416,11 +413,11 @@ reads-left p capture cells bytes k table n c m entry h = neither stays repeats
     right-at t b = alike _ _ (fails-not _ (all-at (length (steps_of (bases_for p))) (λ u. not (off_at p bytes capture n c u)) h b))
 
     stays : any p.wide (stray_in p bytes capture table c) ≡ false
-    stays = none_any _ _ (λ i q. not-stray p bytes capture table n c entry i (round-below p k.small i q) right-at)
+    stays = none_any _ _ (λ i q. not-stray p bytes capture table n c entry i (round-below p i q) right-at)
 
     repeats : any (length (steps_of (bases_for p)) - period p) (other_later (period p) bytes capture c) ≡ false
     repeats =
         none_any _ _
         (λ u q.
-        let same = ap (λ (f : ℕ → Bool). f n) (value-repeats p u k.small (omega arith)) in
+        let same = ap (λ (f : ℕ → Bool). f n) (value-repeats p u (omega arith)) in
         not-other _ _ (right-at (period p + u) (omega arith) ∙ same ∙ sym (right-at u (omega arith))))

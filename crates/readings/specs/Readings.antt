@@ -8,9 +8,9 @@ use Rattle.rules.specs.File.{most_number}
 use Rattle.rules.specs.Refusals.{most_cells, most_vectors, most_bytes, most_width}
 use Rattle.rules.specs.Vectors.{inserted_after, steps_of, vector_of}
 use Rattle.rules.specs.declared.Step.TheVariants.{Base}
-use Rattle.words.specs.Sets.{net_words, unlike}
-use Rattle.plan.specs.declared.steps.Plan.{Plan}
-use Rattle.plan.specs.Plans.{bases_for, Small, start_of}
+use Rattle.words.specs.Sets.{unlike}
+use Rattle.plan.specs.declared.numbers.Plan.{Plan}
+use Rattle.plan.specs.Plans.{bases_for, start_of}
 
 -- net n's value in vector t of the plan
 unfoldable pub value_at : Plan → ℕ → ℕ → Bool
@@ -45,6 +45,10 @@ staying left unlike changing entries i = bit left i && not (bit unlike i && stra
 -- the cell at c reads otherwise in the row from `other` on than in that from `at` on, and its entry names no net that changes between them
 unfoldable pub stray_at : List ℕ → ℕ → ℕ → (ℕ → Bool) → List ℕ → ℕ → Bool
 stray_at capture at other changing table c = xor (row_bit capture at c) (row_bit capture other c) && stray changing (get_or table c 0)
+
+-- so it does between vectors t and u of rows of so many bytes
+abbrev pub stray_rows : List ℕ → ℕ → List ℕ → ℕ → ℕ → (ℕ → Bool) → ℕ → Bool
+stray_rows capture bytes table t u changing = stray_at capture (t * bytes) (u * bytes) changing table
 
 -- the cell at c changes its reading after vector t, and its entry's net does not change there
 unfoldable pub stray_after : Plan → ℕ → List ℕ → List ℕ → ℕ → ℕ → Bool
@@ -100,7 +104,6 @@ pub record Entries (most cells : ℕ) (table : List ℕ) : Type 0 where
 
 -- a capture of all vectors of a plan, and loose bounds within which no place overflows
 pub record Captured (plan : Plan) (capture : List ℕ) (cells bytes : ℕ) : Type 0 where
-  pub small : Small plan
   pub narrow : plan.wide ≤ most_width
   pub coded : plan.nets + 2 ≤ 2 ^ plan.wide
   pub cells-bounded : cells ≤ most_cells
@@ -110,22 +113,9 @@ pub record Captured (plan : Plan) (capture : List ℕ) (cells bytes : ℕ) : Typ
 
 -- what of this the rows themselves need
 pub record Rowed (plan : Plan) (capture : List ℕ) (bytes : ℕ) : Type 0 where
-  pub small : Small plan
   pub short : bytes ≤ most_bytes
   pub vectors : length (steps_of (bases_for plan)) ≤ most_vectors
   pub rows_are : length capture ≡ length (steps_of (bases_for plan)) * bytes
-
--- a capture of so many vectors, the first group of which ends at `first`
-pub record Later (capture : List ℕ) (first vectors bytes : ℕ) : Type 0 where
-  pub short : bytes ≤ most_bytes
-  pub vectors-bounded : vectors ≤ most_vectors
-  pub ends : first ≤ most_vectors
-  pub rows_are : length capture ≡ vectors * bytes
-
--- entries for the bits of so many bytes, none above the number of nets, and as many bytes for the cells that are left
-pub record Lent (bytes : ℕ) (table left : List ℕ) : Type 0 where
-  pub entries : Entries (64 * net_words) (8 * bytes) table
-  pub room : bytes ≤ length left
 
 -- part i of the plan begins at vector t, and has so many vectors after its base vector
 pub record Part (plan : Plan) (i extra t : ℕ) : Type 0 where

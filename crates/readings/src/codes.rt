@@ -32,7 +32,7 @@ fn add_row(capture: &[u8], at: usize, cells: usize, table: &mut [u16])
     );
 }
 
-// The codes of the first group's base vectors, pattern 1 first.
+// The codes of the first group's base vectors, pattern 1 first. It takes no `Walk`: it writes the table, which a walk only reads.
 pub(crate) fn read_codes(capture: &[u8], plan: Plan, cells: usize, bytes: usize, table: &mut [u16])
     requires captured { Captured plan capture.now cells bytes }
     requires entries { Entries 0 cells table.old }

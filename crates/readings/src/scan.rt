@@ -1,15 +1,15 @@
-// What a cell read in a row of a capture, and two rows held against each other: which cells read otherwise, and may not.
+// What a cell read in a row of a capture, and a byte of two rows held against each other: which cells read otherwise, and may not.
 ghost use Rattle.std.specs.Prelude.{◌≡◌, ◌<◌, ◌≤◌, ◌*◌, ◌+◌, ◌/◌, ◌^◌, ◌&&◌, not, length, get_or, set};
 ghost use Rattle.base.specs.Digits.{bit, word};
 ghost use Rattle.base.specs.Tests.{digit};
 ghost use Rattle.words.specs.Sets.{net_words, member};
 ghost use Rattle.rules.specs.Rows.{row_bit};
-ghost use Rattle.readings.specs.Readings.{stray, staying, stray_at, Left, Entries, Lent};
+ghost use Rattle.readings.specs.Readings.{stray, staying, Entries};
 
 use rules::{Net, Position};
 use words::NetSet;
 
-// Digit i of a byte, from the least.
+// Digit i of a byte, from the least. `words::loops::has` has the same of a word in a list; one trait for both would be longer than the two.
 fn digit_at(byte: u8, i: usize) -> bool
     requires { i < 8 }
     ensures { result ≡ bit byte i }
@@ -74,7 +74,7 @@ fn sift(left: u8, unlike: u8, entries: &[u16], changing: NetSet) -> u8
 
 // Byte j of the cells that are left, where these bits differ between two rows and these are the cells' entries. Most bytes stay, and are
 // not written.
-fn sift_byte(left: &mut [u8], j: usize, unlike: u8, entries: &[u16], changing: NetSet)
+pub(crate) fn sift_byte(left: &mut [u8], j: usize, unlike: u8, entries: &[u16], changing: NetSet)
     requires j_in_bounds { j < length left.old }
     requires entries { Entries (64 * net_words) 8 entries.now }
     ensures { left.new ≡ set left.old j (word 8 (staying (get_or left.old j 0) unlike (member changing.words) entries.now)) }
@@ -84,30 +84,4 @@ fn sift_byte(left: &mut [u8], j: usize, unlike: u8, entries: &[u16], changing: N
         return;
     }
     left[j] = sift(byte, unlike, entries, changing);
-}
-
-// Two rows of a capture to be held against each other, by where they begin. Two numbers are handed over in registers, three are not.
-#[derive(Clone, Copy)]
-pub(crate) struct Rows {
-    pub(crate) at: usize,
-    pub(crate) other: usize,
-}
-
-// The cells that are left after two rows of so many bytes, between which these nets change.
-pub(crate) fn check_rows(
-    capture: &[u8],
-    rows: Rows,
-    bytes: usize,
-    changing: NetSet,
-    table: &[u16],
-    left: &mut [u8],
-)
-    requires bytes_in_bounds { (rows.at + bytes ≤ length capture.now) × (rows.other + bytes ≤ length capture.now) }
-    requires lent { Lent bytes table.now left.old }
-    ensures { Left (stray_at capture.now rows.at rows.other (member changing.words) table.now) left.old (8 * bytes) left.new }
-{
-    for j in 0..bytes {
-        let unlike = capture[rows.at + j] ^ capture[rows.other + j];
-        sift_byte(left, j, unlike, &table[8 * j..], changing);
-    }
 }

@@ -10,10 +10,10 @@ use Rattle.rules.specs.Refusals.{judge, board_checks, count_checks, most_cells, 
 use Rattle.rules.specs.Vectors.{steps_of, total_of}
 use Rattle.rules.proofs.Verdicts.{all_pass, append-pass}
 use Rattle.chains.proofs.Walks.{cells_fit}
-use Rattle.plan.specs.declared.steps.Plan.{Plan}
+use Rattle.plan.specs.declared.numbers.Plan.{Plan}
 use Rattle.plan.specs.Plans.{bases_for}
 use Rattle.plan.specs.Planning.{PlanOf}
-use Rattle.plan.proofs.PlanningLaws.{small-plan, groups-within, total-is, whole-file}
+use Rattle.plan.proofs.PlanningLaws.{total-is, whole-file}
 
 pub cells-within : (file : List ℕ) {cells : ℕ} → judge (board_checks file) ≡ Accepted → cells ≡ cells_of file → cells ≤ most_cells
 cells-within file ok e = let f = cells_fit file (whole-file file ok) in omega arith
@@ -26,8 +26,5 @@ total-bounded file ok =
 pub vectors-bounded : (file : List ℕ) (p : Plan) (t : ℕ) → judge (count_checks file) ≡ Accepted → PlanOf (board_of file) p → t ≡ length (steps_of (bases_for p)) → t ≤ most_number
 vectors-bounded file p t ok h e = let l = total-bounded file ok in omega (arith, e ∙ total-is (board_of file) p h)
 
-pub groups-fit : (file : List ℕ) (p : Plan) → judge (board_checks file) ≡ Accepted → PlanOf (board_of file) p → p.groups ≤ most_number
-groups-fit file p ok h = let l = groups-within file ok in omega (arith, h.groups-are)
-
-pub width_fits : (file : List ℕ) (p : Plan) → judge (board_checks file) ≡ Accepted → PlanOf (board_of file) p → p.wide ≤ most_number
-width_fits file p ok h = let l = (small-plan file ok p h).narrow in omega arith
+pub width_fits : (p : Plan) → p.wide ≤ most_number
+width_fits p = let l = p.small.narrow in omega arith

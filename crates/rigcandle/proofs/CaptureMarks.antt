@@ -20,11 +20,11 @@ use Rattle.rules.specs.Vectors.{Bases, code_width, width_of, steps_of, vector_of
 use Rattle.rules.specs.declared.Step.TheVariants.{Base}
 use Rattle.rules.proofs.Codes.{width-least}
 use Rattle.rules.proofs.Shape.{laid, shaped}
-use Rattle.plan.specs.declared.steps.Plan.{Plan}
+use Rattle.plan.specs.declared.numbers.Plan.{Plan}
 use Rattle.plan.specs.Plans.{bases_for}
 use Rattle.plan.specs.Planning.{PlanOf}
 use Rattle.plan.proofs.WidthLaws.{width-bounded}
-use Rattle.plan.proofs.PlanningLaws.{bases-are, small-plan, total-is, board-accepted, whole-file}
+use Rattle.plan.proofs.PlanningLaws.{bases-are, total-is, board-accepted, whole-file}
 use Rattle.readings.specs.Readings.{value_at, off_at, read_below, Entries, Captured, Read}
 use Rattle.marks.specs.declared.Counts.{Counts}
 use Rattle.marks.specs.Judging.{mark_by, marks_by, Readings, Counted}
@@ -67,7 +67,6 @@ module _ (file : List ℕ) (p : Plan) (capture : List ℕ) {cells : ℕ} (h : Pl
       let w = h.wide-are ∙ ap code_width (sym q) in
       let v = total-bounded file count in
       record {
-        small = small-plan file ok p h;
         narrow = rw w (width-bounded most_width p.nets (omega arith));
         coded = rw w (width-least p.nets).0;
         cells-bounded = omega arith;

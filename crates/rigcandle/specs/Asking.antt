@@ -4,7 +4,7 @@ use Rattle.rules.specs.File.{board_of}
 use Rattle.rules.specs.Refusals.{judge, count_checks, Accepted, Refused}
 use Rattle.rules.specs.Answers.{packed}
 use Rattle.rules.specs.declared.Refusal.{Refusal}
-use Rattle.plan.specs.declared.steps.Plan.{Plan}
+use Rattle.plan.specs.declared.numbers.Plan.{Plan}
 use Rattle.plan.specs.Planning.{PlanOf}
 
 -- the plan of a file that checks 1 to 12 accept, or the refusal that they give

@@ -11,7 +11,7 @@ const EIGHT_BITS: u64 = 1 << 8;
 
 const SIXTEEN_BITS: u64 = 1 << 16;
 
-// A refusal: number, place and second place.
+// A refusal: number, place and second place. No `From`: the type is crate rules', and these bits are this crate's.
 fn refusal_bits(refusal: Refusal) -> u64
     ensures { result ≡ pack (field 8 refusal.number ∷ field 16 refusal.place ∷ field 16 refusal.second ∷ []) }
 {

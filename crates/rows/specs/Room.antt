@@ -5,7 +5,7 @@ use Rattle.rules.specs.File.{board_of, cells_of, most_number}
 use Rattle.rules.specs.Vectors.{total_of}
 use Rattle.words.specs.Sets.{cell_words}
 use Rattle.select.specs.Turns.{Ready}
-use Rattle.plan.specs.declared.steps.Plan.{Plan}
+use Rattle.plan.specs.declared.numbers.Plan.{Plan}
 use Rattle.plan.specs.Planning.{PlanOf}
 
 -- the buffer with these bytes from `at` on; "bytes of a buffer past those needed keep their values", and so do those before

@@ -16,7 +16,7 @@ pub fn row_bytes(cells: usize) -> usize
     cells.div_ceil(8)
 }
 
-// Byte j of a row: cells 8 j to 8 j + 7, the lowest in the least bit.
+// Byte j of a row: cells 8 j to 8 j + 7, the lowest in the least bit. By shifts, since the contract speaks of bits: `to_le_bytes` is no shorter.
 fn row_byte(words: &[u64], j: usize) -> u8
     requires { j < 8 * length words.now }
     ensures { result ≡ word 8 (λ i. member words.now (8 * j + i)) }

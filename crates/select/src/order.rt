@@ -11,7 +11,7 @@ use cells::driver_at;
 use chains::{TABLE, head, set_spare};
 use rules::Position;
 
-// The cell at c is the highest driver of its control cell.
+// The cell at c is the highest driver of its control cell. Compared by number: an edit of a derived `==` would be refused for a name.
 fn is_highest(file: &[u8], table: &[u16; TABLE], c: Position) -> bool
     requires chains { Chains file.now ControlCell table.now }
     requires c_bound { c.0 < cells_of file.now }

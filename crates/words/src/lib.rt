@@ -164,7 +164,8 @@ where
         Set { words }
     }
 
-    // The lowest number in the set from `from` on, or 64 * W where there is none.
+    // The lowest number in the set from `from` on, or 64 * W where there is none. A number and no Option: `crosser_of`, which alone asks,
+    // ends at the number of cells, and one comparison serves both ends.
     pub fn next(self, from: usize) -> usize
         requires { from ≤ 64 * W }
         ensures { result ≡ seek (member self.entry.words) (64 * W - from) from }

@@ -4,17 +4,20 @@ use Rattle.rules.specs.Refusals.{most_width}
 use Rattle.plan.proofs.WidthLaws.{width_positive, width-bounded}
 use Rattle.check_plans.proofs.plan_of.Goals as goal
 
-pub returns : goal.returns
-returns c =
+pub invariant_of-result : goal.invariant_of-result
+invariant_of-result c =
     let p = c.requires in
     let n = p.0 in
     let l = width-bounded most_width c.args.nets (omega arith) in
     record {
-      nets = p.0;
-      coded = rw c.width.ensures (width_positive c.args.nets);
-      narrow = rw c.width.ensures (omega arith);
-      turns = p.1;
-      groups-bounded = omega (arith, p.2);
-      limited = p.3;
-      limit-bounded = omega (arith, p.4);
+      small =
+          record {
+            nets = p.0;
+            coded = rw c.width.ensures (width_positive c.args.nets);
+            narrow = rw c.width.ensures (omega arith);
+            turns = p.1;
+            groups-bounded = omega (arith, p.2);
+            limited = p.3;
+            limit-bounded = omega (arith, p.4);
+          };
     }

@@ -6,13 +6,11 @@ use Rattle.check_plans.proofs.say_vector.Goals as goal
 
 pub group_of-requires : goal.group_of-requires
 group_of-requires g c =
-    let p = c.requires in
-    record { small = p.small; within = subst (Within c.args.plan) (sym c.step_at-step.ensures) (steps-within _ p.small _ p.t_in_bounds) }
+    subst (Within c.args.plan) (sym c.step_at-step.ensures) (steps-within c.args.plan _ c.requires)
 
 pub values-requires : goal.values-requires
 values-requires g c =
-    let p = c.requires in
-    record { small = p.small; within = subst (Within c.args.plan) (sym c.step_at-step.ensures) (steps-within _ p.small _ p.t_in_bounds) }
+    subst (Within c.args.plan) (sym c.step_at-step.ensures) (steps-within c.args.plan _ c.requires)
 
 pub say_values-requires : goal.say_values-requires
-say_values-requires g c = c.requires.small.nets
+say_values-requires g c = c.args.plan.small.nets

@@ -1,14 +1,11 @@
--- The sizes of a board that is ready can be read, its plan is small, and the vectors of its plan are its own.
+-- The sizes of a board that is ready can be read, and the vectors of its plan are its own.
 use Rattle.std.proofs.Common.{◌∙◌}
 use Rattle.rules.proofs.Shape.{laid, shaped, one_block}
-use Rattle.plan.proofs.PlanningLaws.{small-plan, total-is}
+use Rattle.plan.proofs.PlanningLaws.{total-is}
 use Rattle.listing.proofs.say_vectors.Goals as goal
 
 pub read_sizes-cells-requires : goal.read_sizes-cells-requires
 read_sizes-cells-requires g c = one_block _ (laid _ (shaped _ c.requires.by-control.checked))
-
-pub total-vectors-requires : goal.total-vectors-requires
-total-vectors-requires g c = small-plan _ c.requires.accepted _ c.plan_of-plan.ensures
 
 pub loop-t-init : goal.loop-t-init
 loop-t-init g c =

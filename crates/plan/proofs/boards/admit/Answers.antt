@@ -3,7 +3,7 @@ use Rattle.std.proofs.Common.{◌≡◌, refl, sym, ◌∙◌}
 use Rattle.rules.specs.Refusals.{judge, board_checks, Accepted}
 use Rattle.rules.proofs.Verdicts.{never, given_on, stopped, passed}
 use Rattle.select.specs.Turns.{Ready}
-use Rattle.plan.proofs.PlanningLaws.{small-plan, row_count, check-is}
+use Rattle.plan.proofs.PlanningLaws.{row_count, check-is}
 use Rattle.plan.proofs.boards.admit.Goals as goal
 use Rattle.plan.proofs.boards.admit.Goals.{In_ok-examine}
 
@@ -24,9 +24,6 @@ returns-in_err-examine c =
 
 pub plan_of-requires : goal.plan_of-requires
 plan_of-requires c = own c
-
-pub count_verdict-requires : goal.count_verdict-requires
-count_verdict-requires c = small-plan _ (accepted (goal.at.count_verdict-requires c).In_ok-examine) _ c.plan_of.ensures
 
 pub returns : goal.returns
 returns c =

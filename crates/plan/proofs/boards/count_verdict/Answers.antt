@@ -8,6 +8,3 @@ use Rattle.plan.proofs.boards.count_verdict.Goals as goal
 
 pub returns : goal.returns
 returns c = c.once.ensures ∙ ap (λ (x : ℕ). judge (once 12 (ltb most_vectors x) ∷ [])) c.total.ensures
-
-pub total-requires : goal.total-requires
-total-requires c = c.requires

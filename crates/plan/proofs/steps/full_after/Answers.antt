@@ -6,4 +6,4 @@ use Rattle.plan.proofs.steps.full_after.Goals as goal
 pub returns : goal.returns
 returns c =
     c.inserted_between.ensures
-    ∙ between_is _ c.requires.small _ _ _ c.base_values-old.ensures c.base_values-new.ensures
+    ∙ between_is c.args.plan _ _ _ c.base_values-old.ensures c.base_values-new.ensures

@@ -12,18 +12,18 @@ loop-j-init c = rw (full-zero c.args.plan) (omega arith)
 -- part j of the turn is one of the plan's
 pub overflow_mul-i : goal.overflow_mul-i
 overflow_mul-i c =
-    omega (arith, size-bounded _ c.requires.small, turn-bounded _ c.requires.small _ _ _ _ c.requires.t_in_bounds c.loop-j-test.true c.loop-j.invariant)
+    omega (arith, size-bounded c.args.plan, turn-bounded c.args.plan _ _ _ _ c.requires.t_in_bounds c.loop-j-test.true c.loop-j.invariant)
 
 pub overflow_add-i : goal.overflow_add-i
 overflow_add-i c =
-    omega (arith, size-bounded _ c.requires.small, turn-bounded _ c.requires.small _ _ _ _ c.requires.t_in_bounds c.loop-j-test.true c.loop-j.invariant)
+    omega (arith, size-bounded c.args.plan, turn-bounded c.args.plan _ _ _ _ c.requires.t_in_bounds c.loop-j-test.true c.loop-j.invariant)
 
 pub returns-then-left-eq0 : goal.returns-then-left-eq0
-returns-then-left-eq0 c = turn-base _ c.requires.small _ _ _ _ c.requires.t_in_bounds c.loop-j-test.true c.loop-j.invariant c.if-left-eq0.true
+returns-then-left-eq0 c = turn-base c.args.plan _ _ _ _ c.requires.t_in_bounds c.loop-j-test.true c.loop-j.invariant c.if-left-eq0.true
 
 pub returns-then-left-extra : goal.returns-then-left-extra
 returns-then-left-extra c =
-    turn-inserted _ c.requires.small _ _ _ _ c.requires.t_in_bounds c.loop-j-test.true c.loop-j.invariant c.if-left-eq0.false
+    turn-inserted c.args.plan _ _ _ _ c.requires.t_in_bounds c.loop-j-test.true c.loop-j.invariant c.if-left-eq0.false
     (rw (← c.full_after-extra.ensures) c.if-left-extra.true)
 
 pub loop-j-preserved : goal.loop-j-preserved

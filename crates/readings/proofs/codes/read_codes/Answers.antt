@@ -12,7 +12,7 @@ use Rattle.readings.proofs.codes.read_codes.Goals as goal
 use Rattle.readings.proofs.codes.read_codes.Goals.{In-loop-j}
 
 inside : (d : In-loop-j) → d.loop-j.t < length (steps_of (bases_for d.args.plan))
-inside d = first-in _ _ _ d.requires.captured.small d.loop-j-test.true d.loop-j.invariant.begins
+inside d = first-in d.args.plan _ _ d.loop-j-test.true d.loop-j.invariant.begins
 
 pub loop-j-init : goal.loop-j-init
 unfolding code_from
@@ -31,13 +31,13 @@ add_row-requires-clause-entries c =
     mapped-bounded most_half 0 c.requires.entries (λ x e z. code-bounded _ _ _ _ x e narrow z) c.loop-j.invariant.codes
 
 pub overflow_add-t : goal.overflow_add-t
-overflow_add-t c = omega (arith, c.extra_after.ensures, extra-bounded _ c.requires.captured.small c.loop-j.j)
+overflow_add-t c = omega (arith, c.extra_after.ensures, extra-bounded c.args.plan c.loop-j.j)
 
 pub overflow_add-t-in-loop-j : goal.overflow_add-t-in-loop-j
 overflow_add-t-in-loop-j c =
     let t = inside (goal.at.overflow_add-t-in-loop-j c).In-loop-j in
     let v = c.requires.captured.vectors in
-    omega (arith, c.extra_after.ensures, extra-bounded _ c.requires.captured.small c.loop-j.j)
+    omega (arith, c.extra_after.ensures, extra-bounded c.args.plan c.loop-j.j)
 
 pub loop-j-preserved : goal.loop-j-preserved
 loop-j-preserved c =

@@ -9,7 +9,7 @@ use Rattle.rules.proofs.Shape.{laid, shaped, one_block}
 use Rattle.rules.proofs.CheckLaws.{once-accepted}
 use Rattle.rows.proofs.GroupRows.{place-bounded}
 use Rattle.rigcandle.proofs.AnswerLaws.{Gives, groups-refused, groups-accepted, rest-decides, check-by}
-use Rattle.rigcandle.proofs.AdmittedLaws.{cells-within, groups-fit}
+use Rattle.rigcandle.proofs.AdmittedLaws.{cells-within}
 use Rattle.rules.specs.Answers.{groups_outcome, groups_answer}
 use Rattle.rigcandle.specs.Asking.{answer_bits}
 use Rattle.rules.proofs.Verdicts.{given_on}
@@ -28,7 +28,7 @@ judged c =
 
 pub overflow_mul-plan : goal.overflow_mul-plan
 overflow_mul-plan c =
-    let m = place-bounded _ _ _ _ (groups-fit _ _ c.requires.ready.accepted c.plan_of-plan.ensures) (small (goal.at.overflow_mul-plan c).After-plan_of-plan) c.row_bytes.ensures refl in
+    let m = place-bounded _ _ _ _ c.plan_of-plan.result.small.groups-bounded (small (goal.at.overflow_mul-plan c).After-plan_of-plan) c.row_bytes.ensures refl in
     omega arith
 
 pub returns-in_err-once : goal.returns-in_err-once
@@ -43,7 +43,7 @@ write_groups-requires c =
     record {
       ready = c.requires.ready;
       cells_are = c.read_sizes-cells.ensures.cells;
-      groups-bounded = groups-fit _ _ c.requires.ready.accepted c.plan_of-plan.ensures;
+      groups-bounded = c.plan_of-plan.result.small.groups-bounded;
       long = rw (← c.row_bytes.ensures) room;
     }
 
@@ -56,8 +56,7 @@ returns c =
     record { value = given.0; out_after = given.1 }
 
 pub group_bits-requires : goal.group_bits-requires
-group_bits-requires c =
-    groups-fit _ _ c.requires.ready.accepted c.plan_of-plan.ensures
+group_bits-requires c = c.plan_of-plan.result.small.groups-bounded
 
 pub read_sizes-cells-requires : goal.read_sizes-cells-requires
 read_sizes-cells-requires c = one_block _ (laid _ (shaped _ c.requires.ready.by-control.checked))

@@ -13,7 +13,7 @@ use Rattle.rules.specs.Vectors.{total_of}
 use Rattle.rules.specs.Refusals.{judge, once, short, board_checks, marks_checks, most_cells, Verdict, Accepted}
 use Rattle.rules.proofs.Shape.{laid, shaped, one_block}
 use Rattle.rules.proofs.CheckLaws.{once-accepted}
-use Rattle.plan.proofs.PlanningLaws.{small-plan, total-is, board-accepted, whole-file}
+use Rattle.plan.proofs.PlanningLaws.{total-is, board-accepted, whole-file}
 use Rattle.rows.proofs.GroupRows.{place-bounded}
 use Rattle.rigcandle.proofs.AnswerLaws.{Gives, marks-refused, first-decides, second-decides, check-by}
 use Rattle.rigcandle.proofs.AdmittedLaws.{cells-within, vectors-bounded}
@@ -98,9 +98,6 @@ marks_bits-requires c =
 
 pub read_sizes-sizes-requires : goal.read_sizes-sizes-requires
 read_sizes-sizes-requires c = one_block _ (laid _ (shaped _ (whole-file _ (board-accepted _ c.requires.file_value))))
-
-pub total-requires : goal.total-requires
-total-requires c = small-plan _ (accepted c) _ c.requires.plan_of
 
 pub row_bytes-requires : goal.row_bytes-requires
 row_bytes-requires c = let s = small (goal.at.row_bytes-requires c).After-read_sizes-sizes in omega arith

@@ -12,7 +12,7 @@ use Rattle.rules.specs.Refusals.{judge, once, short, vector_checks, most_cells, 
 use Rattle.rules.proofs.VectorsDriven.{vector-group}
 use Rattle.rules.proofs.Shape.{laid, shaped, one_block}
 use Rattle.rules.proofs.CheckLaws.{once-accepted}
-use Rattle.plan.proofs.PlanningLaws.{small-plan, total-is, groups-within}
+use Rattle.plan.proofs.PlanningLaws.{total-is, groups-within}
 use Rattle.rigcandle.proofs.AnswerLaws.{Gives, vector-refused, vector-accepted, first-decides, second-decides, check-by}
 use Rattle.rigcandle.proofs.AdmittedLaws.{cells-within}
 use Rattle.rules.specs.Answers.{vector_outcome, vector_answer}
@@ -85,9 +85,6 @@ read_sizes-cells-requires c = one_block _ (laid _ (shaped _ c.requires.ready.by-
 
 pub plan_of-plan-requires : goal.plan_of-plan-requires
 plan_of-plan-requires c = c.requires.ready
-
-pub total-requires : goal.total-requires
-total-requires c = small-plan _ c.requires.ready.accepted _ c.plan_of-plan.ensures
 
 pub row_bytes-requires : goal.row_bytes-requires
 row_bytes-requires c = let s = small (goal.at.row_bytes-requires c).After-plan_of-plan in omega arith

@@ -1,24 +1,20 @@
 -- The plan has all three numbers.
 use Rattle.std.proofs.Common.{refl, sym, ◌∙◌}
 use Rattle.rules.proofs.Verdicts.{given_on}
-use Rattle.plan.proofs.PlanningLaws.{small-plan, total-is, board-accepted}
+use Rattle.plan.proofs.PlanningLaws.{total-is}
 use Rattle.rigcandle.specs.Asking.{answer_bits}
 use Rattle.rigcandle.proofs.AnswerLaws.{count-accepted, count-refused}
-use Rattle.rigcandle.proofs.AdmittedLaws.{vectors-bounded, groups-fit, width_fits}
+use Rattle.rigcandle.proofs.AdmittedLaws.{vectors-bounded, width_fits}
 use Rattle.rigcandle.proofs.questions.ask_count.Goals as goal
 
 pub returns-in_err-plan : goal.returns-in_err-plan
 unfolding answer_bits
 returns-in_err-plan c = rw (given_on _ c.from_residual.ensures.1) (count-refused refl refl _ (sym c.in_err-plan.ensures))
 
-pub total-requires : goal.total-requires
-total-requires c = let m = c.in_ok-plan.ensures in small-plan _ (board-accepted _ m.0) _ m.1
-
 pub count_bits-requires : goal.count_bits-requires
 count_bits-requires c =
     let m = c.in_ok-plan.ensures in
-    let ok = board-accepted _ m.0 in
-    (groups-fit _ _ ok m.1, width_fits _ _ ok m.1, vectors-bounded _ _ _ m.0 m.1 c.total.ensures)
+    (c.in_ok-plan.plan.small.groups-bounded, width_fits c.in_ok-plan.plan, vectors-bounded _ _ _ m.0 m.1 c.total.ensures)
 
 pub returns : goal.returns
 unfolding answer_bits

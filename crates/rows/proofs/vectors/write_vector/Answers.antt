@@ -6,21 +6,18 @@ use Rattle.rules.specs.Vectors.{Vector, vector_at}
 use Rattle.rules.proofs.VectorsDriven.{vector-group}
 use Rattle.chains.proofs.Walks.{cells_fit}
 use Rattle.select.proofs.Passing.{board-size}
-use Rattle.plan.specs.Plans.{Small, Within}
+use Rattle.plan.specs.Plans.{Within}
 use Rattle.plan.proofs.MixLaws.{steps-within}
-use Rattle.plan.proofs.PlanningLaws.{small-plan, total-is, vector-is}
+use Rattle.plan.proofs.PlanningLaws.{total-is, vector-is}
 use Rattle.rows.specs.Room.{Cells}
 use Rattle.rows.proofs.BitLaws.{own-cells, vector-written}
 use Rattle.rows.proofs.vectors.write_vector.Goals as goal
 use Rattle.rows.proofs.vectors.write_vector.Goals.{After-group_of-turn, After-step_at-step}
 
--- the plan is small, and the step one of its own
-small : (c : After-step_at-step) → Small c.args.plan
-small c = small-plan _ c.requires.ready.accepted _ c.requires.planned
-
+-- the step is one of the plan's own
 within : (c : After-step_at-step) → Within c.args.plan c.step_at-step.result
 within c =
-    subst (Within c.args.plan) (sym c.step_at-step.ensures) (steps-within _ (small c) _ (rw (total-is _ _ c.requires.planned) c.requires.below))
+    subst (Within c.args.plan) (sym c.step_at-step.ensures) (steps-within c.args.plan _ (rw (total-is _ _ c.requires.planned) c.requires.below))
 
 -- the group found is the vector's
 group-is : (c : After-group_of-turn) → c.group_of-turn.result ≡ (vector_at (board_of c.args.file.now) c.args.t).group
@@ -48,10 +45,10 @@ returns-clause-out_after c =
     vector-written _ _ _ _ _ _ _ _ _ size g c.group-on.ensures.words_value nets c.row_cells-row.ensures c.write_row.ensures
 
 pub step_at-step-requires : goal.step_at-step-requires
-step_at-step-requires c = record { small = small-plan _ c.requires.ready.accepted _ c.requires.planned; t_in_bounds = rw (total-is _ _ c.requires.planned) c.requires.below }
+step_at-step-requires c = rw (total-is _ _ c.requires.planned) c.requires.below
 
 pub group_of-turn-requires : goal.group_of-turn-requires
-group_of-turn-requires c = record { small = small c; within = within c }
+group_of-turn-requires c = within c
 
 pub values-nets-requires : goal.values-nets-requires
-values-nets-requires c = record { small = small (goal.at.values-nets-requires c).After-step_at-step; within = within (goal.at.values-nets-requires c).After-step_at-step }
+values-nets-requires c = within (goal.at.values-nets-requires c).After-step_at-step

@@ -1,7 +1,7 @@
 -- Vector by vector (left-later).
 use Rattle.readings.proofs.LeftLaws.{left-zero}
 use Rattle.readings.proofs.Following.{left-later}
-use Rattle.readings.proofs.walk.check_later.Goals as goal
+use Rattle.readings.proofs.walk.Walk.check_later.Goals as goal
 
 pub loop-u-init : goal.loop-u-init
 loop-u-init c = left-zero _ _ _

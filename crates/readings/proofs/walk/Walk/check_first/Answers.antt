@@ -5,20 +5,20 @@ use Rattle.plan.proofs.RoundLaws.{round-below}
 use Rattle.readings.proofs.CapturePlaces.{starts_none, starts-next, part-below}
 use Rattle.readings.proofs.LeftLaws.{left-zero, left_one}
 use Rattle.readings.proofs.Following.{period-is}
-use Rattle.readings.proofs.walk.check_first.Goals as goal
+use Rattle.readings.proofs.walk.Walk.check_first.Goals as goal
 
 pub loop-i-init : goal.loop-i-init
 loop-i-init c = record { begins = starts_none _; still_left = left-zero _ _ _ }
 
 pub overflow_add-t : goal.overflow_add-t
-overflow_add-t c = omega (arith, c.extra_after-extra.ensures, extra-bounded _ c.requires.rowed.small c.loop-i.i)
+overflow_add-t c = omega (arith, c.extra_after-extra.ensures, extra-bounded c.args.self.now.plan c.loop-i.i)
 
 pub overflow_add-t-in-loop-i : goal.overflow_add-t-in-loop-i
 overflow_add-t-in-loop-i c =
-    let p = c.requires.rowed in
+    let p = c.args.self.now.rowed in
     let v = p.vectors in
-    let q = part-below _ _ 0 _ (round-below _ p.small _ c.loop-i-test.true) c.loop-i.invariant.begins (omega arith) in
-    omega (arith, c.extra_after-extra.ensures, extra-bounded _ p.small c.loop-i.i)
+    let q = part-below _ _ 0 _ (round-below c.args.self.now.plan _ c.loop-i-test.true) c.loop-i.invariant.begins (omega arith) in
+    omega (arith, c.extra_after-extra.ensures, extra-bounded c.args.self.now.plan c.loop-i.i)
 
 pub loop-i-preserved : goal.loop-i-preserved
 loop-i-preserved c =
