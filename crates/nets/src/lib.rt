@@ -1,22 +1,22 @@
 // Refusals 7 to 9: every net has an output, no two of its outputs clash, and it is not crowded.
 #![tactic(auto, using(crate::proofs::Fits::fits))]
 
-ghost use Rattle.std.specs.Prelude.{◌≡◌, true, false, ◌∷◌, [], ◌<◌, ◌≤◌};
+ghost use Rattle.std.specs.Prelude.{◌≡◌, true, false, ◌∷◌, [], ◌<◌};
 ghost use Rattle.rules.specs.File.{board_of, nets_of};
-ghost use Rattle.rules.specs.Refusals.{judge, each, clashing, net_checks, most_nets};
+ghost use Rattle.rules.specs.Refusals.{judge, each, clashing, net_checks};
 ghost use Rattle.nets.specs.Nets.{undriven_in, crowded_in, Alone, Several};
 
 use cells::driver_at;
 use chains::filled::FilledBoard;
-use chains::{TABLE, drivers_on, net_head, net_link};
+use chains::{drivers_on, net_head, net_link};
 use rules::{MOST_DRIVERS, Net, Verdict};
 use words::{CELL_WORDS, loops};
 
 // Refusal 7: a net without an output.
-fn undriven_verdict(table: &[u16; TABLE], nets: usize) -> Verdict
-    requires { nets ≤ most_nets }
-    ensures { result ≡ judge (each 7 nets (undriven_in table.now) ∷ []) }
+fn undriven_verdict(board: &FilledBoard) -> Verdict
+    ensures { result ≡ judge (each 7 board.now.nets (undriven_in board.now.table.now) ∷ []) }
 {
+    let FilledBoard { table, nets, .. } = *board;
     rules::each(7, nets, |n| net_head(table, Net(n as u16)).is_none())
 }
 
@@ -70,11 +70,11 @@ fn clash_verdict(board: &FilledBoard) -> Verdict
 }
 
 // Refusal 9: a net with over 16 controlled drivers.
-#[tactic(auto, unfolding(crate::specs::Nets::crowded_in))]
-fn crowded_verdict(table: &[u16; TABLE], nets: usize) -> Verdict
-    requires { nets ≤ most_nets }
-    ensures { result ≡ judge (each 9 nets (crowded_in table.now) ∷ []) }
+#[tactic(auto, using(crate::proofs::Fits::fits), unfolding(crate::specs::Nets::crowded_in))]
+fn crowded_verdict(board: &FilledBoard) -> Verdict
+    ensures { result ≡ judge (each 9 board.now.nets (crowded_in board.now.table.now) ∷ []) }
 {
+    let FilledBoard { table, nets, .. } = *board;
     rules::each(9, nets, |n| MOST_DRIVERS < drivers_on(table, Net(n as u16)))
 }
 
@@ -82,7 +82,7 @@ fn crowded_verdict(table: &[u16; TABLE], nets: usize) -> Verdict
 pub fn nets_verdict(board: &FilledBoard) -> Verdict
     ensures { result ≡ judge (net_checks (board_of board.now.file.now)) }
 {
-    undriven_verdict(board.table, board.nets)?;
+    undriven_verdict(board)?;
     clash_verdict(board)?;
-    crowded_verdict(board.table, board.nets)
+    crowded_verdict(board)
 }
