@@ -3,12 +3,11 @@ ghost use Rattle.std.specs.Prelude.{◌≡◌, ◌<◌};
 ghost use Rattle.rules.specs.File.{board_of, cells_of, nets_of};
 ghost use Rattle.rules.specs.Drivers.{drives};
 ghost use Rattle.words.specs.Sets.{member};
-ghost use Rattle.chains.specs.Table.{ControlCell};
+ghost use Rattle.chains.specs.Table.{ControlCell, NetOf};
 ghost use Rattle.chains.specs.Chains.{Chains};
 ghost use Rattle.chains.specs.Sharing.{with_control, with_controls, with_sharers, partners_of};
 ghost use Rattle.cells.specs.Whole.{Whole};
 
-use crate::filled::FilledBoard;
 use crate::{TABLE, head, link, net_head, net_link};
 use cells::{driver_at, net_at};
 use rules::{Net, Position};
@@ -46,11 +45,11 @@ fn add_control(file: &[u8], c: Position, floor: Position, set: CellSet) -> CellS
 }
 
 // The set with the control cells of net n above floor besides.
-fn add_controls(board: &FilledBoard, n: Net, floor: Position, met: CellSet) -> CellSet
-    requires { n.0 < nets_of board.now.file.now }
-    ensures { member result.words ≡ with_controls (board_of board.now.file.now) floor.0 n.0 (member met.words) }
+fn add_controls(file: &[u8], table: &[u16; TABLE], n: Net, floor: Position, met: CellSet) -> CellSet
+    requires chains { Chains file.now NetOf table.now }
+    requires n_bound { n.0 < nets_of file.now }
+    ensures { member result.words ≡ with_controls (board_of file.now) floor.0 n.0 (member met.words) }
 {
-    let FilledBoard { file, table, .. } = *board;
     let mut more = met;
     let mut at = net_head(table, n);
     while let Some(c) = at {
@@ -61,26 +60,34 @@ fn add_controls(board: &FilledBoard, n: Net, floor: Position, met: CellSet) -> C
 }
 
 // The set with the control cells above floor of the net of the driver at c besides, if c is one.
-fn add_sharers(board: &FilledBoard, c: Position, floor: Position, met: CellSet) -> CellSet
-    requires { c.0 < cells_of board.now.file.now }
-    ensures { member result.words ≡ with_sharers (board_of board.now.file.now) floor.0 c.0 (member met.words) }
+fn add_sharers(
+    file: &[u8],
+    table: &[u16; TABLE],
+    c: Position,
+    floor: Position,
+    met: CellSet,
+) -> CellSet
+    requires chains { Chains file.now NetOf table.now }
+    requires c_bound { c.0 < cells_of file.now }
+    ensures { member result.words ≡ with_sharers (board_of file.now) floor.0 c.0 (member met.words) }
 {
-    let Some(driver) = driver_at(board.file, c) else {
+    let Some(driver) = driver_at(file, c) else {
         return met;
     };
-    add_controls(board, driver.net, floor, met)
+    add_controls(file, table, driver.net, floor, met)
 }
 
 // The control cells above k that share a net with it.
-pub fn partners(board: &FilledBoard, k: Position) -> CellSet
-    requires { k.0 < cells_of board.now.file.now }
-    ensures { member result.words ≡ partners_of (board_of board.now.file.now) k.0 }
+pub fn partners(file: &[u8], table: &[u16; TABLE], k: Position) -> CellSet
+    requires chains { Chains file.now ControlCell table.now }
+    requires chains_2 { Chains file.now NetOf table.now }
+    requires k_bound { k.0 < cells_of file.now }
+    ensures { member result.words ≡ partners_of (board_of file.now) k.0 }
 {
-    let table = board.table;
     let mut set = CellSet::empty();
     let mut at = head(table, k);
     while let Some(c) = at {
-        set = add_sharers(board, c, k, set);
+        set = add_sharers(file, table, c, k, set);
         at = link(table, c);
     }
     set

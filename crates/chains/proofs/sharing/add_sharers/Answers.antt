@@ -9,11 +9,11 @@ use Rattle.chains.proofs.sharing.add_sharers.Goals as goal
 use Rattle.chains.proofs.sharing.add_sharers.Goals.{In-Some}
 
 -- the driver found is the cell's
-told : (d : In-Some) → driver_at (board_of d.args.board.now.file.now) d.args.c.0 ≡ Some d.in-Some.driver
+told : (d : In-Some) → driver_at (board_of d.args.file.now) d.args.c.0 ≡ Some d.in-Some.driver
 told d = sym d.in-Some.ensures
 
-pub add_controls-requires : goal.add_controls-requires
-add_controls-requires c = net-below _ c.args.board.now.filled.by-net.checked _ c.requires _ _ (sym c.in-Some.ensures)
+pub add_controls-requires-clause-n_bound : goal.add_controls-requires-clause-n_bound
+add_controls-requires-clause-n_bound c = net-below _ c.requires.chains.checked _ c.requires.c_bound _ _ (sym c.in-Some.ensures)
 
 pub returns-in_default : goal.returns-in_default
 returns-in_default c = no-sharers _ _ _ (sym c.in_default.ensures) _

@@ -9,7 +9,7 @@ use Rattle.chains.proofs.sharing.partners.Given as goal
 
 abbrev pub invariant-loop-at : goal.invariant-loop-at
 invariant-loop-at l =
-    Gathered (keyed (board_of l.fn.board.file.now) ControlCell l.k.0) (shares_above (board_of l.fn.board.file.now) l.k.0) nothing (member l.set.words) (cells_of l.fn.board.file.now)
+    Gathered (keyed (board_of l.file) ControlCell l.k.0) (shares_above (board_of l.file) l.k.0) nothing (member l.set.words) (cells_of l.file)
     (entry_of l.at)
 
 abbrev pub decreases-loop-at : goal.decreases-loop-at
