@@ -45,7 +45,7 @@ fn crosser_of(board: &FilledBoard, i: Position) -> Option<Position>
         return None;
     };
     let mine = nets_of(file, table, i);
-    let met = partners(board, i);
+    let met = partners(file, table, i);
     let mut j = met.next(i.0 as usize + 1);
     while j < cells {
         let higher = Position(j as u16);

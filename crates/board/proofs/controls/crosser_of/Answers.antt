@@ -77,7 +77,7 @@ pub nets_of-mine-requires : goal.nets_of-mine-requires
 nets_of-mine-requires c = record { chains = c.args.board.now.filled.by-control; k_bound = own (goal.at.nets_of-mine-requires c).Start }
 
 pub partners-met-requires : goal.partners-met-requires
-partners-met-requires c = own (goal.at.partners-met-requires c).Start
+partners-met-requires c = record { chains = c.args.board.now.filled.by-control; chains_2 = c.args.board.now.filled.by-net; k_bound = own (goal.at.partners-met-requires c).Start }
 
 pub next-j-requires : goal.next-j-requires
 next-j-requires c = let f = fit (goal.at.next-j-requires c).Start in let l = own (goal.at.next-j-requires c).Start in omega arith
