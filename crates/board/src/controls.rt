@@ -6,13 +6,11 @@ ghost use Rattle.rules.specs.Drivers.{controlled};
 ghost use Rattle.rules.specs.Refusals.{judge, each, crossing, unequal, control_checks};
 ghost use Rattle.words.specs.Sets.{net_words, member, relation_of};
 ghost use Rattle.cells.specs.Whole.{Sized};
-ghost use Rattle.chains.specs.Table.{ControlCell};
-ghost use Rattle.chains.specs.Chains.{Chains};
-ghost use Rattle.chains.specs.Counts.{Counted};
 ghost use Rattle.chains.specs.Filling.{Filled};
 ghost use Rattle.board.specs.Controls.{is_crossing, crosser_of, drivers_at, any_other};
 
 use cells::net_at;
+use chains::filled::FilledBoard;
 use chains::sharing::{nets_of, partners};
 use chains::{TABLE, drivers_on, head, link};
 use nesting::falling::{Nesting, tell_falling};
@@ -33,12 +31,16 @@ fn sets_cross(a: &[u64; NET_WORDS], b: &[u64; NET_WORDS]) -> bool
 
 // Control cell i's net set is compared with that of each higher one that shares a net with it: the first
 // that crosses it, if one does. A control cell that switches nothing crosses none.
-fn crosser_of(file: &[u8], table: &[u16; TABLE], cells: usize, i: Position) -> Option<Position>
-    requires filled { Filled file.now table.now }
-    requires cells_value { cells ≡ cells_of file.now }
-    requires i_lt_cells { i.0 < cells }
-    ensures { result ≡ crosser_of (board_of file.now) i.0 }
+fn crosser_of(board: &FilledBoard, i: Position) -> Option<Position>
+    requires { i.0 < board.now.cells }
+    ensures { result ≡ crosser_of (board_of board.now.file.now) i.0 }
 {
+    let FilledBoard {
+        file,
+        table,
+        cells,
+        ..
+    } = *board;
     let Some(_) = head(table, i) else {
         return None;
     };
@@ -57,14 +59,12 @@ fn crosser_of(file: &[u8], table: &[u16; TABLE], cells: usize, i: Position) -> O
 }
 
 // Refusal 10: the lowest control cell that crosses a higher one, and the first of these. Not `rules::each`: it says two places.
-fn crossed_verdict(file: &[u8], table: &[u16; TABLE], cells: usize) -> Verdict
-    requires filled { Filled file.now table.now }
-    requires cells_value { cells ≡ cells_of file.now }
-    ensures { result ≡ judge (crossing (board_of file.now) ∷ []) }
+fn crossed_verdict(board: &FilledBoard) -> Verdict
+    ensures { result ≡ judge (crossing (board_of board.now.file.now) ∷ []) }
 {
-    for i in 0..cells {
+    for i in 0..board.cells {
         let lower = Position(i as u16);
-        if let Some(higher) = crosser_of(file, table, cells, lower) {
+        if let Some(higher) = crosser_of(board, lower) {
             return rules::refuse_pair(10, lower, higher);
         }
     }
@@ -72,24 +72,22 @@ fn crossed_verdict(file: &[u8], table: &[u16; TABLE], cells: usize) -> Verdict
 }
 
 // How many controlled drivers the net of the driver at c has.
-fn drivers_at(file: &[u8], table: &[u16; TABLE], c: Position) -> usize
-    requires counted { Counted file.now (cells_of file.now) table.now }
-    requires c_bound { (c.0 < cells_of file.now) × (controlled (board_of file.now) c.0 ≡ true) }
-    ensures { result ≡ drivers_at (board_of file.now) c.0 }
+fn drivers_at(board: &FilledBoard, c: Position) -> usize
+    requires { (c.0 < cells_of board.now.file.now) × (controlled (board_of board.now.file.now) c.0 ≡ true) }
+    ensures { result ≡ drivers_at (board_of board.now.file.now) c.0 }
 {
-    drivers_on(table, net_at(file, c))
+    drivers_on(board.table, net_at(board.file, c))
 }
 
 // A driver of control cell k is on a net with another number of drivers than `first`.
-fn differs(file: &[u8], table: &[u16; TABLE], k: Position, first: usize) -> bool
-    requires chains { Chains file.now ControlCell table.now }
-    requires counted { Counted file.now (cells_of file.now) table.now }
-    requires k_bound { k.0 < cells_of file.now }
-    ensures { result ≡ any_other (board_of file.now) k.0 first }
+fn differs(board: &FilledBoard, k: Position, first: usize) -> bool
+    requires { k.0 < cells_of board.now.file.now }
+    ensures { result ≡ any_other (board_of board.now.file.now) k.0 first }
 {
+    let table = board.table;
     let mut at = head(table, k);
     while let Some(c) = at {
-        if drivers_at(file, table, c) != first {
+        if drivers_at(board, c) != first {
             return true;
         }
         at = link(table, c);
@@ -98,36 +96,30 @@ fn differs(file: &[u8], table: &[u16; TABLE], k: Position, first: usize) -> bool
 }
 
 // The nets of control cell k differ in number of controlled drivers.
-fn differ(file: &[u8], table: &[u16; TABLE], k: Position) -> bool
-    requires chains { Chains file.now ControlCell table.now }
-    requires counted { Counted file.now (cells_of file.now) table.now }
-    requires k_bound { k.0 < cells_of file.now }
-    ensures { result ≡ unequal (board_of file.now) k.0 }
+fn differ(board: &FilledBoard, k: Position) -> bool
+    requires { k.0 < cells_of board.now.file.now }
+    ensures { result ≡ unequal (board_of board.now.file.now) k.0 }
 {
-    let Some(highest) = head(table, k) else {
+    let Some(highest) = head(board.table, k) else {
         return false;
     };
-    let first = drivers_at(file, table, highest);
-    differs(file, table, k, first)
+    let first = drivers_at(board, highest);
+    differs(board, k, first)
 }
 
 // Refusal 11: the lowest control cell whose nets differ in number of controlled drivers.
-fn unequal_verdict(file: &[u8], table: &[u16; TABLE], cells: usize) -> Verdict
-    requires filled { Filled file.now table.now }
-    requires cells_value { cells ≡ cells_of file.now }
-    ensures { result ≡ judge (each 11 (cells_of file.now) (unequal (board_of file.now)) ∷ []) }
+fn unequal_verdict(board: &FilledBoard) -> Verdict
+    ensures { result ≡ judge (each 11 (cells_of board.now.file.now) (unequal (board_of board.now.file.now)) ∷ []) }
 {
-    rules::each(11, cells, |k| differ(file, table, Position(k as u16)))
+    rules::each(11, board.cells, |k| differ(board, Position(k as u16)))
 }
 
 // Refusals 10 and 11, one after the other.
-fn search(file: &[u8], table: &[u16; TABLE], cells: usize) -> Verdict
-    requires filled { Filled file.now table.now }
-    requires cells_value { cells ≡ cells_of file.now }
-    ensures { result ≡ judge (control_checks (board_of file.now)) }
+fn search(board: &FilledBoard) -> Verdict
+    ensures { result ≡ judge (control_checks (board_of board.now.file.now)) }
 {
-    crossed_verdict(file, table, cells)?;
-    unequal_verdict(file, table, cells)
+    crossed_verdict(board)?;
+    unequal_verdict(board)
 }
 
 // Refusals 10 and 11. Each pair of control cells is looked at only where the tests tell nothing.
@@ -145,9 +137,16 @@ pub(crate) fn controls_verdict(
     if sound_upward(file, table, cells) {
         return Ok(());
     }
-    match tell_falling(file, table, cells, nets) {
-        Nesting::Unknown => search(file, table, cells),
-        Nesting::Nested => unequal_verdict(file, table, cells),
+    let told = tell_falling(file, table, cells, nets);
+    let board = FilledBoard {
+        file,
+        table,
+        cells,
+        nets,
+    };
+    match told {
+        Nesting::Unknown => search(&board),
+        Nesting::Nested => unequal_verdict(&board),
         Nesting::Sound => Ok(()),
     }
 }

@@ -12,6 +12,7 @@ ghost use Rattle.cells.specs.Whole.{Whole};
 use cells::cell_at;
 use rules::{Cell, MOST_CELLS, MOST_NETS, Net, Position};
 
+pub mod filled;
 pub mod filling;
 pub mod sharing;
 

@@ -1,48 +1,45 @@
 // Refusals 7 to 9: every net has an output, no two of its outputs clash, and it is not crowded.
 #![tactic(auto, using(crate::proofs::Fits::fits))]
 
-ghost use Rattle.std.specs.Prelude.{◌≡◌, true, false, ◌∷◌, [], ◌<◌, ◌≤◌};
+ghost use Rattle.std.specs.Prelude.{◌≡◌, true, false, ◌∷◌, [], ◌<◌};
 ghost use Rattle.rules.specs.File.{board_of, nets_of};
-ghost use Rattle.rules.specs.Refusals.{judge, each, clashing, net_checks, most_nets};
-ghost use Rattle.chains.specs.Table.{NetOf};
-ghost use Rattle.chains.specs.Chains.{Chains};
-ghost use Rattle.chains.specs.Filling.{Filled};
+ghost use Rattle.rules.specs.Refusals.{judge, each, clashing, net_checks};
 ghost use Rattle.nets.specs.Nets.{undriven_in, crowded_in, Alone, Several};
 
 use cells::driver_at;
-use chains::{TABLE, drivers_on, net_head, net_link};
+use chains::filled::FilledBoard;
+use chains::{drivers_on, net_head, net_link};
 use rules::{MOST_DRIVERS, Net, Verdict};
 use words::{CELL_WORDS, loops};
 
 // Refusal 7: a net without an output.
-fn undriven_verdict(table: &[u16; TABLE], nets: usize) -> Verdict
-    requires { nets ≤ most_nets }
-    ensures { result ≡ judge (each 7 nets (undriven_in table.now) ∷ []) }
+fn undriven_verdict(board: &FilledBoard) -> Verdict
+    ensures { result ≡ judge (each 7 board.now.nets (undriven_in board.now.table.now) ∷ []) }
 {
+    let FilledBoard { table, nets, .. } = *board;
     rules::each(7, nets, |n| net_head(table, Net(n as u16)).is_none())
 }
 
 // Net n has at most one output.
-fn alone(file: &[u8], table: &[u16; TABLE], n: Net) -> bool
-    requires chains { Chains file.now NetOf table.now }
-    requires n_bound { n.0 < nets_of file.now }
-    ensures alone { result ≡ true → Alone (board_of file.now) n.0 }
-    ensures several { result ≡ false → Several (board_of file.now) n.0 }
+fn alone(board: &FilledBoard, n: Net) -> bool
+    requires { n.0 < nets_of board.now.file.now }
+    ensures alone { result ≡ true → Alone (board_of board.now.file.now) n.0 }
+    ensures several { result ≡ false → Several (board_of board.now.file.now) n.0 }
 {
-    let Some(highest) = net_head(table, n) else {
+    let Some(highest) = net_head(board.table, n) else {
         return true;
     };
-    net_link(table, highest).is_none()
+    net_link(board.table, highest).is_none()
 }
 
 // Two of net n's outputs clash, where there are several: one of them is always on, or the control cell
 // of one is met again.
-fn several_clash(file: &[u8], table: &[u16; TABLE], n: Net) -> bool
-    requires chains { Chains file.now NetOf table.now }
-    requires n_bound { n.0 < nets_of file.now }
-    requires several { Several (board_of file.now) n.0 }
-    ensures { result ≡ clashing (board_of file.now) n.0 }
+fn several_clash(board: &FilledBoard, n: Net) -> bool
+    requires n_bound { n.0 < nets_of board.now.file.now }
+    requires several { Several (board_of board.now.file.now) n.0 }
+    ensures { result ≡ clashing (board_of board.now.file.now) n.0 }
 {
+    let FilledBoard { file, table, .. } = *board;
     let mut met = [0u64; CELL_WORDS];
     let mut at = net_head(table, n);
     while let Some(c) = at {
@@ -58,39 +55,34 @@ fn several_clash(file: &[u8], table: &[u16; TABLE], n: Net) -> bool
 }
 
 // Two outputs of net n clash.
-fn clashes(file: &[u8], table: &[u16; TABLE], n: Net) -> bool
-    requires chains { Chains file.now NetOf table.now }
-    requires n_bound { n.0 < nets_of file.now }
-    ensures { result ≡ clashing (board_of file.now) n.0 }
+fn clashes(board: &FilledBoard, n: Net) -> bool
+    requires { n.0 < nets_of board.now.file.now }
+    ensures { result ≡ clashing (board_of board.now.file.now) n.0 }
 {
-    !alone(file, table, n) && several_clash(file, table, n)
+    !alone(board, n) && several_clash(board, n)
 }
 
 // Refusal 8: a net two of whose outputs clash.
-fn clash_verdict(file: &[u8], table: &[u16; TABLE], nets: usize) -> Verdict
-    requires chains { Chains file.now NetOf table.now }
-    requires nets_value { nets ≡ nets_of file.now }
-    ensures { result ≡ judge (each 8 (nets_of file.now) (clashing (board_of file.now)) ∷ []) }
+fn clash_verdict(board: &FilledBoard) -> Verdict
+    ensures { result ≡ judge (each 8 (nets_of board.now.file.now) (clashing (board_of board.now.file.now)) ∷ []) }
 {
-    rules::each(8, nets, |n| clashes(file, table, Net(n as u16)))
+    rules::each(8, board.nets, |n| clashes(board, Net(n as u16)))
 }
 
 // Refusal 9: a net with over 16 controlled drivers.
-#[tactic(auto, unfolding(crate::specs::Nets::crowded_in))]
-fn crowded_verdict(table: &[u16; TABLE], nets: usize) -> Verdict
-    requires { nets ≤ most_nets }
-    ensures { result ≡ judge (each 9 nets (crowded_in table.now) ∷ []) }
+#[tactic(auto, using(crate::proofs::Fits::fits), unfolding(crate::specs::Nets::crowded_in))]
+fn crowded_verdict(board: &FilledBoard) -> Verdict
+    ensures { result ≡ judge (each 9 board.now.nets (crowded_in board.now.table.now) ∷ []) }
 {
+    let FilledBoard { table, nets, .. } = *board;
     rules::each(9, nets, |n| MOST_DRIVERS < drivers_on(table, Net(n as u16)))
 }
 
 // Refusals 7 to 9, over the chains of outputs by net and the numbers of drivers.
-pub fn nets_verdict(file: &[u8], table: &[u16; TABLE], nets: usize) -> Verdict
-    requires filled { Filled file.now table.now }
-    requires nets_value { nets ≡ nets_of file.now }
-    ensures { result ≡ judge (net_checks (board_of file.now)) }
+pub fn nets_verdict(board: &FilledBoard) -> Verdict
+    ensures { result ≡ judge (net_checks (board_of board.now.file.now)) }
 {
-    undriven_verdict(table, nets)?;
-    clash_verdict(file, table, nets)?;
-    crowded_verdict(table, nets)
+    undriven_verdict(board)?;
+    clash_verdict(board)?;
+    crowded_verdict(board)
 }

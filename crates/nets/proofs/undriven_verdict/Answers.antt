@@ -6,4 +6,4 @@ use Rattle.nets.proofs.undriven_verdict.Goals as goal
 
 pub returns : goal.returns
 unfolding undriven_in
-returns c = c.each.ensures (undriven_in c.args.table.now) (λ place fails l gives. search (rules, none-zero))
+returns c = c.each.ensures (undriven_in c.args.board.now.table.now) (λ place fails l gives. search (rules, none-zero))

@@ -7,11 +7,11 @@ use Rattle.board.proofs.controls.crossed_verdict.Goals as goal
 use Rattle.board.proofs.controls.crossed_verdict.Goals.{In-loop-i}
 
 -- inside the loop i is one of the file's cells
-here : (c : In-loop-i) → c.loop-i.i < cells_of c.args.file.now
-here c = let e = c.requires.cells_value in omega arith
+here : (c : In-loop-i) → c.loop-i.i < cells_of c.args.board.now.file.now
+here c = let e = c.args.board.now.sized.cells_are in omega arith
 
 pub overflow_cast-lower : goal.overflow_cast-lower
-overflow_cast-lower c = let f = cell-fits _ c.requires.filled.by-control.checked _ (here c) in omega arith
+overflow_cast-lower c = let f = cell-fits _ c.args.board.now.filled.by-control.checked _ (here c) in omega arith
 
 pub returns-in-Some : goal.returns-in-Some
 unfolding board_of
@@ -24,4 +24,4 @@ loop-i-preserved c = pairs_next _ c.loop-i.invariant (here (goal.at.loop-i-prese
 
 pub returns : goal.returns
 unfolding board_of
-returns c = let e = c.requires.cells_value in sym (pairs-ended _ c.loop-i.invariant (omega arith))
+returns c = let e = c.args.board.now.sized.cells_are in sym (pairs-ended _ c.loop-i.invariant (omega arith))

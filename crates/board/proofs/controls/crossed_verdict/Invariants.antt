@@ -5,4 +5,4 @@ use Rattle.rules.specs.Refusals.{crossed}
 use Rattle.board.proofs.controls.crossed_verdict.Given as goal
 
 abbrev pub invariant-loop-i : goal.invariant-loop-i
-invariant-loop-i l = Searched (cells_of l.file) (crossed (board_of l.file)) l.i
+invariant-loop-i l = Searched (cells_of l.fn.board.file.now) (crossed (board_of l.fn.board.file.now)) l.i

@@ -20,40 +20,40 @@ agrees : (b : Board) (k first c r : ℕ) → keyed b ControlCell k c ≡ true �
 agrees b k first c r key e z = rw (key, eq-eqb (drivers_at b c) first (sym e ∙ z))
 
 -- the cell that the walk has come to is one of the file's, and a driver of k
-here : (c : In-Some) → c.in-Some.c.0 < cells_of c.args.file.now
+here : (c : In-Some) → c.in-Some.c.0 < cells_of c.args.board.now.file.now
 here c = below-named _ _ _ c.loop-at.invariant.under c.in-Some.is
 
-on : (c : In-Some) → keyed (board_of c.args.file.now) ControlCell c.args.k.0 c.in-Some.c.0 ≡ true
-on c = on_chain _ _ _ c.requires.chains _ _ (λ d h. left _ _ h) _ _ _ c.loop-at.invariant c.in-Some.is
+on : (c : In-Some) → keyed (board_of c.args.board.now.file.now) ControlCell c.args.k.0 c.in-Some.c.0 ≡ true
+on c = on_chain _ _ _ c.args.board.now.filled.by-control _ _ (λ d h. left _ _ h) _ _ _ c.loop-at.invariant c.in-Some.is
 
 pub head-at-requires : goal.head-at-requires
-head-at-requires c = cell-fits _ c.requires.chains.checked _ c.requires.k_bound
+head-at-requires c = cell-fits _ c.args.board.now.filled.by-control.checked _ c.requires
 
 pub loop-at-init : goal.loop-at-init
 loop-at-init c =
-    from-head _ _ _ c.requires.chains _ _ (λ d h. left _ _ h) (cell-fits _ c.requires.chains.checked _ c.requires.k_bound) _ c.head-at.ensures
+    from-head _ _ _ c.args.board.now.filled.by-control _ _ (λ d h. left _ _ h) (cell-fits _ c.args.board.now.filled.by-control.checked _ c.requires) _ c.head-at.ensures
 
 pub drivers_at-requires : goal.drivers_at-requires
-drivers_at-requires c = record { counted = c.requires.counted; c_bound = (here c, keyed-controlled _ _ _ (on c)) }
+drivers_at-requires c = (here c, keyed-controlled _ _ _ (on c))
 
 pub returns-then-drivers_at-first : goal.returns-then-drivers_at-first
 unfolding any_other board_of
 returns-then-drivers_at-first c =
     let other = tells _ _ _ _ _ (on (goal.at.returns-then-drivers_at-first c).In-Some) c.drivers_at.ensures c.if-drivers_at-first.true in
-    sym (hit _ _ _ c.requires.chains _ _ (λ d h. left _ _ h) _ _ _ c.loop-at.invariant c.in-Some.is other)
+    sym (hit _ _ _ c.args.board.now.filled.by-control _ _ (λ d h. left _ _ h) _ _ _ c.loop-at.invariant c.in-Some.is other)
 
 pub link-at-requires : goal.link-at-requires
-link-at-requires c = cell-fits _ c.requires.chains.checked _ (here (goal.at.link-at-requires c).In-Some)
+link-at-requires c = cell-fits _ c.args.board.now.filled.by-control.checked _ (here (goal.at.link-at-requires c).In-Some)
 
 pub loop-at-smaller : goal.loop-at-smaller
-loop-at-smaller c = walk-falls _ _ _ c.requires.chains _ _ _ (here (goal.at.loop-at-smaller c).In-Some) c.in-Some.is c.link-at.ensures
+loop-at-smaller c = walk-falls _ _ _ c.args.board.now.filled.by-control _ _ _ (here (goal.at.loop-at-smaller c).In-Some) c.in-Some.is c.link-at.ensures
 
 pub loop-at-preserved : goal.loop-at-preserved
 loop-at-preserved c =
     let key = on (goal.at.loop-at-preserved c).In-Some in
-    step _ _ _ c.requires.chains _ _ (λ d h. left _ _ h) _ _ _ _ (omega arith) c.loop-at.invariant c.in-Some.is
+    step _ _ _ c.args.board.now.filled.by-control _ _ (λ d h. left _ _ h) _ _ _ _ (omega arith) c.loop-at.invariant c.in-Some.is
     (agrees _ _ _ _ _ key c.drivers_at.ensures c.if-drivers_at-first.false) c.link-at.ensures
 
 pub returns : goal.returns
 unfolding any_other board_of
-returns c = sym (missed _ _ _ c.requires.chains _ _ (λ d h. left _ _ h) _ _ c.loop-at.invariant c.in_default.is)
+returns c = sym (missed _ _ _ c.args.board.now.filled.by-control _ _ (λ d h. left _ _ h) _ _ c.loop-at.invariant c.in_default.is)

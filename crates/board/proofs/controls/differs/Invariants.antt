@@ -7,7 +7,7 @@ use Rattle.board.proofs.ControlChecks.{other}
 use Rattle.board.proofs.controls.differs.Given as goal
 
 abbrev pub invariant-loop-at : goal.invariant-loop-at
-invariant-loop-at l = Walking (keyed (board_of l.file) ControlCell l.fn.k.0) (other (board_of l.file) l.fn.k.0 l.first) (cells_of l.file) (entry_of l.at)
+invariant-loop-at l = Walking (keyed (board_of l.fn.board.file.now) ControlCell l.fn.k.0) (other (board_of l.fn.board.file.now) l.fn.k.0 l.first) (cells_of l.fn.board.file.now) (entry_of l.at)
 
 abbrev pub decreases-loop-at : goal.decreases-loop-at
 decreases-loop-at l = entry_of l.at

@@ -28,10 +28,10 @@ module _ (file t : List ℕ) (c n : ℕ) (pre : Counted file (cells_of file) t) 
   counted r h = h ∙ pre.counted n in_table ∙ rw (e, x)
 
 pub net_at-requires : goal.net_at-requires
-net_at-requires c = record { checked = c.requires.counted.checked; below = c.requires.c_bound.0 }
+net_at-requires c = record { checked = c.args.board.now.filled.counted.checked; below = c.requires.0 }
 
 pub drivers_on-requires : goal.drivers_on-requires
-drivers_on-requires c = in_table _ _ _ _ c.requires.counted c.requires.c_bound.0 c.requires.c_bound.1 c.net_at.ensures
+drivers_on-requires c = in_table _ _ _ _ c.args.board.now.filled.counted c.requires.0 c.requires.1 c.net_at.ensures
 
 pub returns : goal.returns
-returns c = counted _ _ _ _ c.requires.counted c.requires.c_bound.0 c.requires.c_bound.1 c.net_at.ensures _ c.drivers_on.ensures
+returns c = counted _ _ _ _ c.args.board.now.filled.counted c.requires.0 c.requires.1 c.net_at.ensures _ c.drivers_on.ensures

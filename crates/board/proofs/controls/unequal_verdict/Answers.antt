@@ -6,7 +6,7 @@ use Rattle.board.proofs.controls.unequal_verdict.Goals as goal
 
 pub each-requires : goal.each-requires
 each-requires c =
-    let most = (laid _ (shaped _ c.requires.filled.by-control.checked)).cells.at_most in
-    let e = c.requires.cells_value in
-    let fits : c.args.cells ≤ most_cells = omega arith in
+    let most = (laid _ (shaped _ c.args.board.now.filled.by-control.checked)).cells.at_most in
+    let e = c.args.board.now.sized.cells_are in
+    let fits : c.args.board.now.cells ≤ most_cells = omega arith in
     search rules

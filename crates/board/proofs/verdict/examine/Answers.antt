@@ -14,27 +14,11 @@ returns-in_err-file_verdict c =
 pub read_sizes-sizes-requires : goal.read_sizes-sizes-requires
 read_sizes-sizes-requires c = one_block _ (laid _ (shaped _ (sym c.in_ok-file_verdict.ensures)))
 
-pub fill_table-requires : goal.fill_table-requires
-fill_table-requires c =
-    record { checked = sym c.in_ok-file_verdict.ensures; cells_are = c.read_sizes-sizes.ensures.cells; blank = c.requires }
+pub returns-in_err-nets_verdict-clause-value : goal.returns-in_err-nets_verdict-clause-value
+returns-in_err-nets_verdict-clause-value c =
+    given_on _ c.from_residual-in_err-nets_verdict.ensures.1
+    ∙ passed (row-file _) c.in_ok-file_verdict.ensures refl (stopped (row-nets _) c.in_err-nets_verdict.ensures refl)
 
-pub nets_verdict-requires : goal.nets_verdict-requires
-nets_verdict-requires c = record { filled = c.fill_table.ensures; nets_value = c.read_sizes-sizes.ensures.nets }
-
-pub returns-in_err-nets_verdict : goal.returns-in_err-nets_verdict
-returns-in_err-nets_verdict c =
-    let g = given_on _ c.from_residual-in_err-nets_verdict.ensures.1 in
-    let e = g ∙ passed (row-file _) c.in_ok-file_verdict.ensures refl (stopped (row-nets _) c.in_err-nets_verdict.ensures refl) in
-    record { value = e; filled = λ b. absurd (never _ (sym g ∙ e ∙ b)) }
-
-pub controls_verdict-requires : goal.controls_verdict-requires
-controls_verdict-requires c =
-    let sizes = c.read_sizes-sizes.ensures in
-    record { filled = c.fill_table.ensures; sized = record { cells_are = sizes.cells; nets-are = sizes.nets } }
-
-pub returns : goal.returns
-returns c =
-    record {
-      value = passed (row-file _) c.in_ok-file_verdict.ensures refl (passed (row-nets _) c.in_ok-nets_verdict.ensures refl c.controls_verdict.ensures.value);
-      filled = λ b. c.controls_verdict.ensures.filled_2;
-    }
+pub returns-clause-value : goal.returns-clause-value
+returns-clause-value c =
+    passed (row-file _) c.in_ok-file_verdict.ensures refl (passed (row-nets _) c.in_ok-nets_verdict.ensures refl c.controls_verdict.ensures.value)
