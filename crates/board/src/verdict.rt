@@ -8,7 +8,6 @@ use crate::controls::controls_verdict;
 use blocks::{read_sizes, shape_verdict};
 use cells::records_verdict;
 use chains::TABLE;
-use chains::filled::FilledBoard;
 use chains::filling::fill_table;
 use nets::nets_verdict;
 use rules::Verdict;
@@ -32,13 +31,7 @@ pub fn examine(file: &[u8], table: &mut [u16; TABLE]) -> Verdict
     file_verdict(file)?;
     let sizes = read_sizes(file);
     fill_table(file, sizes.cells, table);
-    let board = FilledBoard {
-        file,
-        table,
-        cells: sizes.cells,
-        nets: sizes.nets,
-    };
-    nets_verdict(&board)?;
+    nets_verdict(file, table, sizes.nets)?;
     controls_verdict(file, table, sizes.cells, sizes.nets)
 }
 

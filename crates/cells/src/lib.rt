@@ -196,6 +196,6 @@ pub fn driver_at(file: &[u8], p: Position) -> Option<Driver>
     match kind {
         3 => Some(Driver { control, net }),
         5 => Some(Driver { control: p, net }),
-        _ => None,
+        _ => None, // always on
     }
 }

@@ -20,7 +20,7 @@ use Rattle.rules.specs.Marks.{unseen, byte_of, bytes_that, is_pass, is_fail, is_
 use Rattle.rules.specs.Refusals.{most_nets}
 use Rattle.rules.specs.Answers.{over}
 use Rattle.rows.specs.Room.{placed}
-use Rattle.rows.proofs.PlacedLaws.{over-more}
+use Rattle.rows.proofs.PlacedLaws.{length_over, over-more}
 use Rattle.marks.specs.Judging.{seen_by, mark_by, marks_by, Tested, mark_in, marks_in, counts_of, one_more, CountsBounded, Marked, Counted}
 use Rattle.marks.specs.declared.Tests.{Tests}
 use Rattle.marks.specs.declared.Counts.{Counts}
@@ -114,7 +114,10 @@ module _ (tests : Tests) where
         let all : bytes ≡ marks_in tests n = m.buffer ∙ rw (long, none, append-nil) in
         record { buffer = rw (all, long); counted = m.counted }
 
-    -- the numbers are small
+    -- the buffer is as long as it was, and the numbers are small
+    pub marked-long : {n : ℕ} {after : List ℕ} {counts : Counts} → Marked tests n before after counts → n ≤ length before → length after ≡ length before
+    marked-long {n} m l = let long = marks-long n in ap length m.buffer ∙ length_over (marks_in tests n) before (omega arith)
+
     pub marked-bounded : {n : ℕ} {after : List ℕ} {counts : Counts} → Marked tests n before after counts → n ≤ most_nets → CountsBounded counts
     unfolding counts_of
     marked-bounded {n} m l =

@@ -46,7 +46,7 @@ any_same n p q h =
     (λ t. let m = any-member n q t in any_at n p m.1 (h m.0 ∙ m.2))
 
 module _ (file t : List ℕ) (nets : ℕ) (filled : Filled file t) (e : nets ≡ nets_of file) where
-  nets-fit : nets ≤ most_nets
+  pub nets-fit : nets ≤ most_nets
   nets-fit = let f = nets_fit file filled.by-net.checked in omega arith
 
   undriven-is : (n : ℕ) → n < nets → undriven (board_of file) n ≡ undriven_in t n

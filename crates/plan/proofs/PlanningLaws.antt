@@ -19,17 +19,26 @@ use Rattle.rules.proofs.Verdicts.{Then, then_append, append-pass, all_pass, acce
 use Rattle.words.specs.Sets.{up_to}
 use Rattle.plan.specs.declared.numbers.Plan.{Plan}
 use Rattle.plan.specs.Bounds.{Bounded}
-use Rattle.plan.specs.Plans.{bases_for}
+use Rattle.plan.specs.Plans.{bases_by, bases_for}
 use Rattle.plan.specs.Planning.{PlanOf}
 use Rattle.plan.proofs.WidthLaws.{width_positive, width-bounded}
 
+-- the base vectors of a board's four numbers, whether or not these are small enough for a plan's type
+pub bases-by : (b : Board) (n p g ssol : ℕ) → n ≡ b.nets → p ≡ width_of b → g ≡ groups_of b → ssol ≡ b.limit → bases_by n p g ssol ≡ bases_of b
+unfolding bases_of up_to pattern_of
+bases-by b n p g ssol n-is p-is g-is ssol-is = rw (n-is, p-is, g-is, ssol-is) refl
+
 pub bases-are : (b : Board) (p : Plan) → PlanOf b p → bases_for p ≡ bases_of b
-unfolding bases_for bases_of up_to pattern_of
-bases-are b p h = rw (h.nets-are, h.wide-are, h.groups-are, h.limit-are) refl
+unfolding bases_for
+bases-are b p h = bases-by b _ _ _ _ h.nets-are h.wide-are h.groups-are h.limit-are
+
+-- the total, of any base vectors that are the board's
+pub total-by : (b : Board) (s : Bases) → s ≡ bases_of b → length (steps_of s) ≡ total_of b
+unfolding total_of plan_of
+total-by b s e = ap (λ (s : Bases). length (steps_of s)) e
 
 pub total-is : (b : Board) (p : Plan) → PlanOf b p → length (steps_of (bases_for p)) ≡ total_of b
-unfolding total_of plan_of
-total-is b p h = ap (λ (s : Bases). length (steps_of s)) (bases-are b p h)
+total-is b p h = total-by b _ (bases-are b p h)
 
 -- no larger than m, where each is
 largest-bounded : (n m : ℕ) (f : ℕ → ℕ) → ((i : ℕ) → i < n → f i ≤ m) → largest n f ≤ m
@@ -82,15 +91,22 @@ pub board-accepted : (file : List ℕ) → judge (count_checks file) ≡ Accepte
 unfolding count_checks
 board-accepted file e = accepted (board_checks file) (append-pass (board_checks file) _ (all_pass (count_checks file) e)).0
 
+-- check 12 goes by that total, and so by a plan's
+pub check-by : (b : Board) (s : Bases) → s ≡ bases_of b → judge (once 12 (ltb most_vectors (length (steps_of s))) ∷ []) ≡ judge (once 12 (ltb most_vectors (total_of b)) ∷ [])
+check-by b s e = ap (λ (x : ℕ). judge (once 12 (ltb most_vectors x) ∷ [])) (total-by b s e)
+
 pub check-is : (b : Board) (p : Plan) → PlanOf b p → judge (once 12 (ltb most_vectors (length (steps_of (bases_for p)))) ∷ []) ≡ judge (once 12 (ltb most_vectors (total_of b)) ∷ [])
-check-is b p h = ap (λ (x : ℕ). judge (once 12 (ltb most_vectors x) ∷ [])) (total-is b p h)
+check-is b p h = check-by b _ (bases-are b p h)
 
 -- the four numbers, each as it is found
 pub plan-from : (file : List ℕ) (p : Plan) → p.nets ≡ nets_of file → p.limit ≡ limit_of file → p.wide ≡ code_width p.nets → p.groups ≡ groups_of (board_of file) → PlanOf (board_of file) p
 unfolding board_of width_of
 plan-from file p n l w g = record { nets-are = n; wide-are = w ∙ ap code_width n; groups-are = g; limit-are = l }
 
--- a step's vector is the board's
-pub vector-is : (b : Board) (p : Plan) (t : ℕ) (step : Step) → PlanOf b p → step ≡ get_or (steps_of (bases_for p)) t (Base 0) → vector_of (bases_for p) step ≡ vector_at b t
+-- a step's vector is the board's, by any base vectors that are
+pub vector-by : (b : Board) (s : Bases) (t : ℕ) (step : Step) → s ≡ bases_of b → step ≡ get_or (steps_of s) t (Base 0) → vector_of s step ≡ vector_at b t
 unfolding vector_at plan_of
-vector-is b p t step h e = ap (vector_of (bases_for p)) e ∙ ap (λ (s : Bases). vector_of s (get_or (steps_of s) t (Base 0))) (bases-are b p h)
+vector-by b s t step h e = ap (vector_of s) e ∙ ap (λ (s : Bases). vector_of s (get_or (steps_of s) t (Base 0))) h
+
+pub vector-is : (b : Board) (p : Plan) (t : ℕ) (step : Step) → PlanOf b p → step ≡ get_or (steps_of (bases_for p)) t (Base 0) → vector_of (bases_for p) step ≡ vector_at b t
+vector-is b p t step h = vector-by b _ t step (bases-are b p h)

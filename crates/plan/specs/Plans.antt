@@ -15,6 +15,10 @@ unfoldable pub bases_for : Plan → Bases
 bases_for p =
     record { nets = p.nets; size = p.groups * p.wide; group = λ i. suc (i / p.wide); value = λ i. up_to p.nets (code_bit p.wide (i % p.wide)); limit = p.limit }
 
+-- the base vectors that four numbers N, p, G and SSOL make, small or not: those of a plan are `bases_for`
+abbrev pub bases_by : ℕ → ℕ → ℕ → ℕ → Bases
+bases_by n p g ssol = record { nets = n; size = g * p; group = λ i. suc (i / p); value = λ i. up_to n (code_bit p (i % p)); limit = ssol }
+
 -- a word has the digits of f from 64 * w on
 pub record WordOf (f : ℕ → Bool) (w word : ℕ) : Type 0 where
   pub digits : (k : ℕ) → k < 64 → bit word k ≡ f (64 * w + k)

@@ -39,6 +39,7 @@ pub fn values(plan: Plan, step: Step) -> NetSet
 }
 
 // The group of a step's vector, from 1: an inserted one has the earlier group.
+#[tactic(auto, unfolding(rules::specs::Vectors::vector_of, crate::specs::Plans::bases_for))]
 pub fn group_of(plan: Plan, step: Step) -> usize
     requires { Within plan step }
     ensures { result ≡ (vector_of (bases_for plan) step).group }

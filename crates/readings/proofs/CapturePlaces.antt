@@ -28,7 +28,7 @@ pub starts-end : (p : Plan) (i t : ℕ) → t ≡ start_of p i → i ≡ size p 
 starts-end p i t e h = e ∙ ap (start_of p) h ∙ start-end p
 
 -- the parts up to i are no longer than all
-start-bounded : (p : Plan) (left i : ℕ) → i + left ≡ size p → start_of p i ≤ length (steps_of (bases_for p))
+pub start-bounded : (p : Plan) (left i : ℕ) → i + left ≡ size p → start_of p i ≤ length (steps_of (bases_for p))
 start-bounded p zero i e = let s : i ≡ size p = omega arith in rw s (omega (arith, start-end p))
 start-bounded p (suc left) i e = let r = start-bounded p left (i + 1) (omega arith) in omega (arith, start-next p i)
 

@@ -3,6 +3,7 @@ use Prim.Native.Nat.{ℕ, zero, suc, ◌+◌, ◌*◌, ◌-◌, ◌≤◌, ◌<�
 use mathlib.Core.Path.{◌≡◌, refl, sym, ◌∙◌, ap, ap₂}
 use mathlib.Core.Bool.{Bool, true, false, xor, ◌&&◌, ◌||◌, or_comm}
 use mathlib.Core.List.{List}
+use native.Mathlib.Nat.{mul-le-mul_right, one-mul}
 use native.Mathlib.Omega.{arith}
 use borrow.Author.Tests.{lt-ltb, le-ltb}
 use lib.ListN.{length, get_or}
@@ -13,7 +14,8 @@ use Rattle.words.specs.Sets.{nothing, unlike}
 use Rattle.plan.specs.declared.numbers.Plan.{Plan}
 use Rattle.plan.specs.Plans.{bases_for, mix, start_of}
 use Rattle.readings.specs.Readings.{value_at, period, stray, stray_at, stray_after, stray_in, other_later, lost, Rowed, Left, Part}
-use Rattle.readings.proofs.CapturePlaces.{starts-next, part-below, part-value}
+use Rattle.plan.proofs.StepLaws.{size}
+use Rattle.readings.proofs.CapturePlaces.{starts-next, start-bounded, part-below, part-value}
 use Rattle.readings.proofs.LeftLaws.{left-then, left-same, left-all, left_one}
 use Rattle.readings.proofs.Repeating.{base-value, next-below}
 
@@ -135,3 +137,10 @@ values-on p t k f e = e ∙ ap (value_at p) (let s : t + k + 1 ≡ t + (k + 1) =
 pub period-is : (p : Plan) (i t : ℕ) → t ≡ start_of p i → i ≡ p.wide → t ≡ period p
 unfolding period
 period-is p i t e h = e ∙ ap (start_of p) h
+
+-- it is no longer than the plan
+pub period-bounded : (p : Plan) → period p ≤ length (steps_of (bases_for p))
+unfolding period
+period-bounded p =
+    let m = mul-le-mul_right {m = 1} {n = p.groups} p.wide p.small.turns in
+    start-bounded p (size p - p.wide) p.wide (omega (arith, one-mul p.wide))

@@ -6,7 +6,7 @@ use Rattle.base.specs.Digits.{bit}
 use Rattle.rules.specs.Rows.{row_bytes, row_bit}
 use Rattle.rules.specs.File.{most_number}
 use Rattle.rules.specs.Refusals.{most_cells, most_vectors, most_bytes, most_width}
-use Rattle.rules.specs.Vectors.{inserted_after, steps_of, vector_of}
+use Rattle.rules.specs.Vectors.{Bases, inserted_after, steps_of, vector_of}
 use Rattle.rules.specs.declared.Step.TheVariants.{Base}
 use Rattle.words.specs.Sets.{unlike}
 use Rattle.plan.specs.declared.numbers.Plan.{Plan}
@@ -23,6 +23,10 @@ off_at plan bytes capture n c t = xor (row_bit capture (t * bytes) c) (value_at 
 -- the cell at c read net n's own word in the first t vectors
 unfoldable pub read_below : Plan → ℕ → List ℕ → ℕ → ℕ → ℕ → Bool
 read_below plan bytes capture t n c = all t (λ u. not (off_at plan bytes capture n c u))
+
+-- the same of the vectors of any base vectors, whether or not they are a plan's
+abbrev pub read_in : Bases → ℕ → List ℕ → ℕ → ℕ → ℕ → Bool
+read_in s bytes capture t n c = all t (λ u. not (xor (row_bit capture (u * bytes) c) ((vector_of s (get_or (steps_of s) u (Base 0))).value n)))
 
 -- an entry with the bits read in the first j base vectors behind it
 unfoldable pub code_from : Plan → ℕ → List ℕ → ℕ → ℕ → ℕ → ℕ

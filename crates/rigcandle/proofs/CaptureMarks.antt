@@ -1,5 +1,5 @@
 -- What the readings of a capture say, in the board's own terms.
-use Prim.Native.Nat.{ℕ, ◌+◌, ◌*◌, ◌/◌, ◌%◌, ◌≤◌}
+use Prim.Native.Nat.{ℕ, suc, ◌<◌, ◌+◌, ◌*◌, ◌/◌, ◌%◌, ◌≤◌}
 use mathlib.Core.Path.{◌≡◌, refl, sym, ◌∙◌, ap}
 use mathlib.Core.Bool.{Bool, false, not, xor}
 use mathlib.Core.List.{List, [], ◌∷◌}
@@ -16,7 +16,7 @@ use Rattle.rules.specs.Rows.{row_bytes, row_bit}
 use Rattle.rules.specs.File.{Board, board_of, byte_at, cells_of, nets_of, most_number}
 use Rattle.rules.specs.Marks.{read_at, own_at, differs_at, byte_of, marks_of, bytes_that, is_pass, is_fail, is_unsure}
 use Rattle.rules.specs.Refusals.{judge, board_checks, count_checks, marks_checks, most_cells, most_width, Accepted}
-use Rattle.rules.specs.Vectors.{Bases, code_width, width_of, steps_of, vector_of, plan_of, total_of, vector_at}
+use Rattle.rules.specs.Vectors.{Bases, code_width, width_of, bases_of, steps_of, vector_of, plan_of, total_of, vector_at}
 use Rattle.rules.specs.declared.Step.TheVariants.{Base}
 use Rattle.rules.proofs.Codes.{width-least}
 use Rattle.rules.proofs.Shape.{laid, shaped}
@@ -25,7 +25,7 @@ use Rattle.plan.specs.Plans.{bases_for}
 use Rattle.plan.specs.Planning.{PlanOf}
 use Rattle.plan.proofs.WidthLaws.{width-bounded}
 use Rattle.plan.proofs.PlanningLaws.{bases-are, total-is, board-accepted, whole-file}
-use Rattle.readings.specs.Readings.{value_at, off_at, read_below, Entries, Captured, Read}
+use Rattle.readings.specs.Readings.{value_at, off_at, read_below, read_in, Entries, Captured, Read}
 use Rattle.marks.specs.declared.Counts.{Counts}
 use Rattle.marks.specs.Judging.{mark_by, marks_by, Readings, Counted}
 use Rattle.marks.proofs.MarkedLaws.{bytes-that-bounded}
@@ -33,26 +33,35 @@ use Rattle.marks.proofs.MarksByReadings.{marks-by}
 use Rattle.rigcandle.proofs.AnswerLaws.{Gives, marks-accepted}
 use Rattle.rigcandle.proofs.AdmittedLaws.{total-bounded}
 
--- what a cell read, by the plan and by the board
+-- what a cell read, by base vectors that are the board's, and by the board
 read_is :
-    (b : Board) (p : Plan) (capture : List ℕ) (n c : ℕ) → PlanOf b p →
-    read_below p (row_bytes b.size) capture (length (steps_of (bases_for p))) n c ≡ all (total_of b) (λ t. not (differs_at b capture n c t))
-unfolding read_below off_at value_at row_bit differs_at read_at own_at vector_at plan_of total_of
-read_is b p capture n c h = ap (λ (s : Bases). all (length (steps_of s)) (λ t. not (xor (read t) ((vector_of s (get_or (steps_of s) t (Base 0))).value n)))) (bases-are b p h)
+    (b : Board) (s : Bases) (capture : List ℕ) (n c : ℕ) → s ≡ bases_of b →
+    read_in s (row_bytes b.size) capture (length (steps_of s)) n c ≡ all (total_of b) (λ t. not (differs_at b capture n c t))
+unfolding row_bit differs_at read_at own_at vector_at plan_of total_of
+read_is b s capture n c h = ap (λ (s : Bases). all (length (steps_of s)) (λ t. not (xor (read t) ((vector_of s (get_or (steps_of s) t (Base 0))).value n)))) h
   where
     read : ℕ → Bool
     read t = bit (byte_at capture (t * row_bytes b.size + c / 8)) (c % 8)
+
+-- the marks that readings give are those of the capture, where they are told by base vectors that are the board's: also by those of numbers
+-- that no plan has
+pub marks-read :
+    (file : List ℕ) (s : Bases) (capture after : List ℕ) {cells : ℕ} → s ≡ bases_of (board_of file) → cells ≡ cells_of file →
+    ((c n : ℕ) → c < cells → n < s.nets → eqb (get_or after c 0) (suc n) ≡ read_in s (row_bytes cells) capture (length (steps_of s)) n c) →
+    marks_by (board_of file) after ≡ marks_of (board_of file) capture
+unfolding board_of bases_of
+marks-read file s capture after h e reads =
+    marks-by (board_of file) capture after
+    (λ c l i n m. reads c n (omega arith) (let q = ap (λ (s : Bases). s.nets) h in omega arith)
+    ∙ ap (λ (x : ℕ). read_in s (row_bytes x) capture (length (steps_of s)) n c) e
+    ∙ read_is (board_of file) s capture n c h)
 
 -- a capture of a board's vectors, by the board's plan
 module _ (file : List ℕ) (p : Plan) (capture : List ℕ) {cells : ℕ} (h : PlanOf (board_of file) p) (e : cells ≡ cells_of file) where
   -- the marks that the readings give are those of the capture
   pub marks-are : {before after : List ℕ} → Read p capture before cells after → marks_by (board_of file) after ≡ marks_of (board_of file) capture
-  unfolding board_of
-  marks-are {before} {after} r =
-      marks-by (board_of file) capture after
-      (λ c l i n m. r.reads c n (omega arith) (let q = h.nets-are in omega arith)
-      ∙ ap (λ (x : ℕ). read_below p (row_bytes x) capture (length (steps_of (bases_for p))) n c) e
-      ∙ read_is (board_of file) p capture n c h)
+  unfolding read_below off_at value_at bases_for
+  marks-are {before} {after} r = marks-read file (bases_for p) capture after (bases-are _ _ h) e r.reads
 
   -- it is one of an admitted board, where its length is right
   pub captured :

@@ -5,9 +5,10 @@ use mathlib.Core.Logic.{⊎_elim}
 use mathlib.Core.Bool.{Bool, ◌&&◌}
 use mathlib.Core.List.{List, ◌++◌}
 use native.Mathlib.Nat.{zero-add}
+use native.Mathlib.Omega.{arith}
 use borrow.Author.Tests.{lt-ltb, le-ltb}
 use lib.Dec.{ltb}
-use lib.ListN.{length, length-append}
+use lib.ListN.{length, length-append, length-drop}
 use lib.Seq.{take-append_seam, drop-append-add, drop-drop}
 use Rattle.base.proofs.BoolLaws.{order}
 use Rattle.base.proofs.DigitLaws.{word_same}
@@ -20,6 +21,10 @@ use Rattle.rows.specs.Room.{placed}
 pub over-is : (bytes buffer : List ℕ) → placed 0 bytes buffer ≡ over bytes buffer
 unfolding placed
 over-is bytes buffer = rw zero-add
+
+-- what is written keeps the buffer as long as it was
+pub length_over : (bytes buffer : List ℕ) → length bytes ≤ length buffer → length (over bytes buffer) ≡ length buffer
+length_over bytes buffer h = rw (length-append, length-drop) (omega arith)
 
 -- bytes placed after others are the others with them
 pub over-more : (xs ys buffer : List ℕ) → length xs + length ys ≤ length buffer → placed (length xs) ys (over xs buffer) ≡ over (xs ++ ys) buffer

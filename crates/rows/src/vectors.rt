@@ -27,7 +27,13 @@ fn cell_bit(cell: Cell, p: Position, on: &[u64], nets: &[u64]) -> bool
     match cell {
         Cell::Internal | Cell::Input(_) => false,
         // "A control cell has its on value when on, else the other".
-        Cell::Control(value) => loops::has(on, p.0 as usize) == value,
+        Cell::Control(value) => {
+            if loops::has(on, p.0 as usize) {
+                value
+            } else {
+                !value
+            }
+        }
         Cell::ThreeState(_, n) | Cell::TwoState(n) => loops::has(nets, n.0 as usize),
         // "In its turn .. loaded with the net's value, otherwise with 1".
         Cell::OpenDrain(n) => {

@@ -70,7 +70,7 @@ driver-net c (TwoState m) k n e = absurd (never k n e)
 driver-net c (OpenDrain m) k n e = let q : ◌≡◌ {A = Driver} (record { control = record { 0 = c }; net = m }) (record { control = k; net = n }) = cc in ap (λ (d : Driver). d.net.0) q
 
 -- what was found is the driver there
-pub driver-is : (found at driver : Driver) → found ≡ at → found ≡ driver → at ≡ driver
+pub driver-is : (found at driver : Option Driver) → found ≡ at → found ≡ driver → at ≡ driver
 driver-is found at driver e d = sym e ∙ d
 
 module _ (b : Board) (c : ℕ) where

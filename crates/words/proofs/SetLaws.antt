@@ -66,6 +66,10 @@ unfolding member
 member-zeros n =
     fun_ext (λ i. ap (λ (w : ℕ). bit w (i % 64)) (zero-at n (i / 64)) ∙ bit-zero (i % 64))
 
+-- words that are all zero have no member
+pub member-zero : (n w : ℕ) → w ≡ 0 → member (replicate n w) ≡ nothing
+member-zero n w e = rw e (member-zeros n)
+
 -- after a store, number 64 * j + k is digit k of the word stored, and the numbers of other words are as before
 pub member-set : (ws : List ℕ) (j w k : ℕ) → j < length ws → k < 64 → member (set ws j w) (64 * j + k) ≡ bit w k
 member-set ws j w k l h = member-at (set ws j w) j k h ∙ ap (λ (v : ℕ). bit v k) (get_or-set_same ws j w 0 l)

@@ -57,7 +57,7 @@ impl Numbered<NET_WORDS> for Net {
     ghost number = { λ n. n.0 };
 
     fn number(self) -> usize {
-        self.0 as usize
+        usize::from(self.0)
     }
 }
 

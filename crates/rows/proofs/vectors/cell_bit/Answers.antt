@@ -1,8 +1,8 @@
 -- By the kind of the cell.
 use Prim.Native.Nat.{ℕ}
-use mathlib.Core.Path.{◌≡◌, refl}
+use mathlib.Core.Path.{◌≡◌}
 use mathlib.Core.Logic.{◌⊎◌, ⊎_elim}
-use mathlib.Core.Bool.{Bool, true, false, cond, not, beq}
+use mathlib.Core.Bool.{Bool, false}
 use Rattle.rules.specs.declared.Cell.{Cell}
 use Rattle.rules.specs.declared.Cell.TheVariants.{Internal, Input, ThreeState, TwoState}
 use Rattle.rules.specs.declared.Net.{Net}
@@ -25,13 +25,6 @@ module _ (cell : Cell) (n : Net) (h : ((k : Position) × (cell ≡ ThreeState k 
   unfolding bit_of
   driven-bit lit nets = ⊎_elim (λ (r : (k : Position) × (cell ≡ ThreeState k n)). rw r.1) (λ (e : cell ≡ TwoState n). rw e) h
 
--- a value where lit, else the other
-alike : (lit value : Bool) → beq lit value ≡ cond lit value (not value)
-alike true true = refl
-alike true false = refl
-alike false true = refl
-alike false false = refl
-
 pub has-requires-in-ThreeState : goal.has-requires-in-ThreeState
 has-requires-in-ThreeState c = rw (driven _ _ c.in-ThreeState.is) at c.requires.1
 
@@ -42,9 +35,13 @@ has-value-requires c = rw c.in-OpenDrain.is at c.requires.1
 pub returns-in-Internal : goal.returns-in-Internal
 returns-in-Internal c = idle _ _ _ c.in-Internal.is
 
-pub returns-in-Control : goal.returns-in-Control
+pub returns-then-has : goal.returns-then-has
 unfolding bit_of
-returns-in-Control c = rw (c.has.ensures, c.in-Control.is) (alike _ _)
+returns-then-has c = rw (c.in-Control.is, ← c.has.ensures, c.if-has.true)
+
+pub returns-else-has : goal.returns-else-has
+unfolding bit_of
+returns-else-has c = rw (c.in-Control.is, ← c.has.ensures, c.if-has.false)
 
 pub returns-in-ThreeState : goal.returns-in-ThreeState
 returns-in-ThreeState c = rw c.has-in-ThreeState.ensures (driven-bit _ _ c.in-ThreeState.is _ _)
